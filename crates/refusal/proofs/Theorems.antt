@@ -1,0 +1,93 @@
+-- What the definitions of specs/ say, document 01, "Refusal numbers".
+--     Given               a row of the order holds and names the refusal, and no row before it holds
+--     refused-given, given-refused     an order refuses so exactly if that is given [R11]
+--     accepted-none, none-accepted     it accepts exactly if no row holds
+--     refused-number      a refusal's number is 1 to 13, so 0 is left for an accepted call
+--     accepted-zero       a verdict answers 0 exactly if it accepts
+--     same-refusal        number and place say which refusal it is [R2]
+-- Assumes nothing.
+use mathlib.Core.Bool.{Bool, true, false, true≢false}
+use mathlib.Core.List.{List, [], _∷_, _++_, List·Memᴰ, List·Memᴰ·head, List·Memᴰ·tail, List·Memᴰ·cases-cons, List·Memᴰ·not-nil}
+use mathlib.Core.Logic.{⊎-elim}
+use mathlib.Core.Path.{_≡_, refl, _∙_, ap, ap₂, sym}
+use Prim.Native.Nat.{ℕ, zero, suc, _≤_}
+use native.Mathlib.Omega.{arith}
+use lib.ListN.{getD}
+use Rattle.refusal.specs.declared.Refusal.{Refusal}
+use Rattle.refusal.specs.declared.Refusal.the-variants.{TooManyTasks, MoreDownThanUp, WrongLength, BadBeat, EmptyHand, WrongTakeUps, NoSuchNumber, NoSuchTables, CutShort, UnknownKind, WrongSize, NoRoom, RunTooLong}
+use Rattle.refusal.specs.declared.Verdict.{Verdict}
+use Rattle.refusal.specs.Refusal.{numberOf, placeOf}
+use Rattle.refusal.specs.Answer.{refusal}
+use Rattle.refusal.specs.Order.{Row, _⇒_, judge, test}
+
+pub record Given (l : List Row) (why : Refusal) : Type 0 where
+  pub front : List Row
+  pub back : List Row
+  pub split : l ≡ front ++ (true ⇒ why) ∷ back
+  pub before : (r : Row) → List·Memᴰ r front → test r ≡ false
+
+pub refused-given : (l : List Row) (why : Refusal) → judge l ≡ Verdict.Refused why → Given l why
+refused-given [] why e = let z : _≡_ {A = ℕ} 0 1 = cc in absurd (omega arith)
+refused-given ((true ⇒ first) ∷ l) why e =
+    let same : first ≡ why = cc in
+    record { front = []; back = l; split = ap (λ (r : Refusal). (true ⇒ r) ∷ l) same; before = λ r m. absurd (List·Memᴰ·not-nil m) }
+refused-given ((false ⇒ first) ∷ l) why e =
+    let g = refused-given l why e in
+    record {
+      front = (false ⇒ first) ∷ g .front;
+      back = g .back;
+      split = ap (λ (rows : List Row). (false ⇒ first) ∷ rows) (g .split);
+      before = λ r m. ⊎-elim (λ here. ap test here) (λ later. g .before r later) (List·Memᴰ·cases-cons m);
+    }
+
+front-passed : (front back : List Row) (why : Refusal) → ((r : Row) → List·Memᴰ r front → test r ≡ false) → judge (front ++ (true ⇒ why) ∷ back) ≡ Verdict.Refused why
+front-passed [] back why f = refl
+front-passed ((true ⇒ first) ∷ front) back why f = absurd (true≢false (f (true ⇒ first) (List·Memᴰ·head refl)))
+front-passed ((false ⇒ first) ∷ front) back why f = front-passed front back why (λ r m. f r (List·Memᴰ·tail m))
+
+pub given-refused : (l : List Row) (why : Refusal) → Given l why → judge l ≡ Verdict.Refused why
+given-refused l why g = ap judge (g .split) ∙ front-passed (g .front) (g .back) why (g .before)
+
+pub accepted-none : (l : List Row) → judge l ≡ Verdict.Accepted → (r : Row) → List·Memᴰ r l → test r ≡ false
+accepted-none [] e r m = absurd (List·Memᴰ·not-nil m)
+accepted-none ((true ⇒ first) ∷ l) e r m = let z : _≡_ {A = ℕ} 0 1 = cc in absurd (omega arith)
+accepted-none ((false ⇒ first) ∷ l) e r m = ⊎-elim (λ here. ap test here) (λ later. accepted-none l e r later) (List·Memᴰ·cases-cons m)
+
+pub none-accepted : (l : List Row) → ((r : Row) → List·Memᴰ r l → test r ≡ false) → judge l ≡ Verdict.Accepted
+none-accepted [] f = refl
+none-accepted ((true ⇒ first) ∷ l) f = absurd (true≢false (f (true ⇒ first) (List·Memᴰ·head refl)))
+none-accepted ((false ⇒ first) ∷ l) f = none-accepted l (λ r m. f r (List·Memᴰ·tail m))
+
+-- the refusal that a number and a place name, by the rows of the table in their order
+named : ℕ → ℕ → Refusal
+named n at =
+    getD
+    (TooManyTasks ∷ TooManyTasks ∷ MoreDownThanUp ∷ WrongLength ∷ BadBeat at ∷ EmptyHand at ∷ WrongTakeUps ∷ NoSuchNumber ∷ NoSuchTables ∷ CutShort ∷ UnknownKind ∷ WrongSize ∷ NoRoom ∷ RunTooLong ∷ [])
+    n
+    TooManyTasks
+
+named-back : (why : Refusal) → (named (numberOf why) (placeOf why) ≡ why) × (1 ≤ numberOf why) × (numberOf why ≤ 13)
+unfolding named
+named-back TooManyTasks = (refl, omega arith, omega arith)
+named-back MoreDownThanUp = (refl, omega arith, omega arith)
+named-back WrongLength = (refl, omega arith, omega arith)
+named-back (BadBeat at) = (refl, omega arith, omega arith)
+named-back (EmptyHand at) = (refl, omega arith, omega arith)
+named-back WrongTakeUps = (refl, omega arith, omega arith)
+named-back NoSuchNumber = (refl, omega arith, omega arith)
+named-back NoSuchTables = (refl, omega arith, omega arith)
+named-back CutShort = (refl, omega arith, omega arith)
+named-back UnknownKind = (refl, omega arith, omega arith)
+named-back WrongSize = (refl, omega arith, omega arith)
+named-back NoRoom = (refl, omega arith, omega arith)
+named-back RunTooLong = (refl, omega arith, omega arith)
+
+pub refused-number : (why : Refusal) → (1 ≤ numberOf why) × (numberOf why ≤ 13)
+refused-number why = (named-back why .1, named-back why .2)
+
+pub same-refusal : (p q : Refusal) → numberOf p ≡ numberOf q → placeOf p ≡ placeOf q → p ≡ q
+same-refusal p q n a = sym (named-back p .0) ∙ ap₂ named n a ∙ named-back q .0
+
+pub accepted-zero : (v : Verdict) → refusal v ≡ 0 → v ≡ Verdict.Accepted
+accepted-zero Verdict.Accepted e = refl
+accepted-zero (Verdict.Refused why) e = absurd (omega (arith, named-back why .1))

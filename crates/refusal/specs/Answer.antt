@@ -1,0 +1,29 @@
+-- What document 01, "Refusal numbers", has a call answer, for each case of the two kinds of answer. Definitions only.
+--     refusal, place     of a verdict: an accepted call answers 0 and 0, a refused one the refusal's number and place [R8]
+--     verdict            of an answer: whether the call was accepted
+--     value              of an answer: its number; 0 after a refusal [R7]
+--     answer             the answer of a call that would give n, by the verdict on its input
+use Prim.Native.Nat.{ℕ}
+use Rattle.refusal.specs.declared.Answer.{Answer}
+use Rattle.refusal.specs.declared.Verdict.{Verdict}
+use Rattle.refusal.specs.Refusal.{numberOf, placeOf}
+
+abbrev pub refusal : Verdict → ℕ
+refusal Verdict.Accepted = 0
+refusal (Verdict.Refused why) = numberOf why
+
+abbrev pub place : Verdict → ℕ
+place Verdict.Accepted = 0
+place (Verdict.Refused why) = placeOf why
+
+abbrev pub verdict : Answer → Verdict
+verdict (Answer.Value n) = Verdict.Accepted
+verdict (Answer.Refused why) = Verdict.Refused why
+
+abbrev pub value : Answer → ℕ
+value (Answer.Value n) = n
+value (Answer.Refused why) = 0
+
+abbrev pub answer : Verdict → ℕ → Answer
+answer Verdict.Accepted n = Answer.Value n
+answer (Verdict.Refused why) n = Answer.Refused why

@@ -1,0 +1,55 @@
+-- The first number below n at which a test holds.
+--     first-le         it is at most n
+--     first-holds      where it is below n, the test holds there
+--     first-before     the test holds at no number before it
+--     first-is         so a number below n at which the test holds, and before which it holds nowhere, is the first
+--     first-none       where the test holds at none, it is n
+-- Assumes nothing.
+use mathlib.Core.Bool.{Bool, true, false, true≢false, cond}
+use mathlib.Core.Path.{_≡_, refl, _∙_, ap, sym}
+use Prim.Native.Nat.{ℕ, zero, suc, _+_, _≤_, _<_}
+use native.Mathlib.Nat.{zero-add}
+use native.Mathlib.Omega.{arith}
+use native.Mathlib.Decide.{decLt}
+use Rattle.schedule.specs.Check.{firstFrom, first}
+
+-- what is to be known of the answer k of a search from i over n places
+record Found (f : ℕ → Bool) (i n k : ℕ) : Type 0 where
+  low : i ≤ k
+  high : k ≤ i + n
+  holds : k < i + n → f k ≡ true
+  before : (j : ℕ) → i ≤ j → j < k → f j ≡ false
+
+found : (f : ℕ → Bool) (i n : ℕ) → Found f i n (firstFrom f i n)
+unfolding firstFrom
+found f i zero = record { low = omega arith; high = omega arith; holds = λ h. absurd (omega arith); before = λ j h k. absurd (omega arith) }
+found f i (suc n) = look (f i) refl (found f (suc i) n)
+  where
+    look : (q : Bool) → f i ≡ q → Found f (suc i) n (firstFrom f (suc i) n) → Found f i (suc n) (cond q i (firstFrom f (suc i) n))
+    look true e later = record { low = omega arith; high = omega arith; holds = λ h. e; before = λ j h k. absurd (omega arith) }
+    look false e later =
+        record {
+          low = omega (arith, later .low);
+          high = omega (arith, later .high);
+          holds = λ h. later .holds (omega arith);
+          before = λ j h k. elim (decLt i j) [ yes l ↦ later .before j l k | no l ↦ let here : j ≡ i = omega arith in ap f here ∙ e ];
+        }
+
+module _ (f : ℕ → Bool) (n : ℕ) where
+  pub first-le : first f n ≤ n
+  first-le = omega (arith, found f 0 n .high)
+
+  pub first-holds : first f n < n → f (first f n) ≡ true
+  first-holds h = found f 0 n .holds (omega arith)
+
+  pub first-before : (j : ℕ) → j < first f n → f j ≡ false
+  first-before j h = found f 0 n .before j (omega arith) h
+
+  pub first-is : (k : ℕ) → k < n → f k ≡ true → ((j : ℕ) → j < k → f j ≡ false) → first f n ≡ k
+  first-is k h e none = elim (decLt k (first f n)) [ yes l ↦ absurd (true≢false (sym e ∙ first-before k l)) | no l ↦ at-most l ]
+    where
+      at-most : (k < first f n → ⊥) → first f n ≡ k
+      at-most l = elim (decLt (first f n) k) [ yes m ↦ absurd (true≢false (sym (first-holds (omega arith)) ∙ none (first f n) m)) | no m ↦ omega arith ]
+
+  pub first-none : ((j : ℕ) → j < n → f j ≡ false) → first f n ≡ n
+  first-none none = elim (decLt (first f n) n) [ yes l ↦ absurd (true≢false (sym (first-holds l) ∙ none (first f n) l)) | no l ↦ omega (arith, first-le) ]

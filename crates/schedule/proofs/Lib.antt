@@ -1,0 +1,11 @@
+pub mod First
+pub mod Tally
+pub mod Scan
+pub mod Rows
+pub mod Reflect
+pub mod Verdicts
+pub mod Theorems
+pub mod Hand
+pub mod Pigeonhole
+pub mod Listing
+pub mod Cases

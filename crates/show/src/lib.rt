@@ -1,0 +1,61 @@
+// Prints answers for the programs cases_*, to standard output. What a program prints is held to its
+// stored output and not proved, so these contracts say nothing; each function is proved safe and ending.
+use refusal::Answer;
+use refusal::Verdict;
+
+pub fn text(bytes: &[u8]) {
+    io::write_all(1, bytes);
+}
+
+// A number in decimal.
+pub fn number(n: u64) {
+    io::print_decimal(1, n);
+}
+
+fn wide(beat: u8) -> u64 {
+    beat as u64
+}
+
+// A beat as a digit, or in brackets where it has more than one.
+fn beat(b: u8) {
+    if b < 10 {
+        number(wide(b));
+    } else {
+        text(b"(");
+        number(wide(b));
+        text(b")");
+    }
+}
+
+// The beats run together, and "-" where there is none.
+pub fn beats(b: &[u8]) {
+    if b.len() == 0 {
+        text(b"-");
+    }
+    for i in 0..b.len() {
+        beat(b[i]);
+    }
+}
+
+// "accepted", or "refused", the number and the place.
+pub fn verdict(v: Verdict) {
+    let refusal = v.refusal();
+    if refusal == 0 {
+        text(b"accepted");
+        return;
+    }
+    text(b"refused ");
+    number(refusal);
+    text(b" ");
+    number(v.place());
+}
+
+// The value, or the refusal.
+pub fn answer(a: Answer) {
+    let v = a.verdict();
+    if v.refusal() == 0 {
+        number(a.value());
+    } else {
+        verdict(v);
+    }
+}

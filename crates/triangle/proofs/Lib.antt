@@ -1,0 +1,5 @@
+pub mod Every
+pub mod Count
+pub mod Binomial
+pub mod Rule
+pub mod Theorems

@@ -1,0 +1,17 @@
+// The counts N(t, s) of document 01, "How many forms" (Table 1 of source 000, the Catalan triangle):
+// the table that holds them, and the one look-up that the rest of the repository uses. A crate of its
+// own, since its check takes the longest. The contract cites specs/Count.
+ghost use mathlib.Core.Path.{_≡_};
+ghost use Rattle.triangle.specs.Count.{counted};
+
+mod table;
+
+// The largest number of tasks that a schedule takes up.
+pub const LARGEST: u64 = table::LARGEST;
+
+// How many forms take up t tasks and set down s: N(t, s), and 0 for t above LARGEST. [N7]
+pub fn forms(t: u64, s: u64) -> u64
+    ensures { λ r. ⌜ r ≡ counted t s ⌝ }
+{
+    table::entry(t, s)
+}

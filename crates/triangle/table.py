@@ -1,0 +1,78 @@
+#!/usr/bin/env python3
+"""Writes the table of counts, src/table.rt and specs/Table.antt, from the addition rule of document 01.
+
+The largest count is read from specs/Count.antt, the one place that names it.
+  table.py           writes the two files
+  table.py --check   exits with 1 where a file is not what would be written
+"""
+import pathlib
+import re
+import sys
+
+HERE = pathlib.Path(__file__).resolve().parent
+LARGEST = int(re.search(r"^largest = (\d+)$", (HERE / "specs/Count.antt").read_text(), re.M).group(1))
+SIZE = LARGEST + 1
+
+
+def triangle():
+    rows = []
+    for t in range(SIZE):
+        row = [1]
+        for s in range(1, SIZE):
+            row.append(row[s - 1] + rows[t - 1][s] if s <= t else 0)
+        rows.append(row)
+    return rows
+
+
+def rattle(rows):
+    out = ["// The counts N(t, s), a row for each t: the table, and the look-up that reads no table."]
+    out += ["// Written by table.py from the largest count in specs/Count.antt; not edited by hand."]
+    out += ["ghost use mathlib.Core.Path.{_≡_};", "ghost use Rattle.triangle.specs.Table.{at};", ""]
+    out += ["// The largest number of tasks that a schedule takes up.", f"pub const LARGEST: u64 = {LARGEST};", ""]
+    out += ["// One row for each t from 0 to LARGEST, each row with LARGEST + 1 counts, zeros past s = t."]
+    out += [f"const FORMS: [[u64; {SIZE}]; {SIZE}] = ["]
+    for row in rows:
+        out += ["    ["] + [f"        {n}," for n in row] + ["    ],"]
+    out += ["];", ""]
+    out += ["// The table's own entry, and 0 outside the table. A const array is rebuilt wherever it is read, so this is slow."]
+    out += ["fn listed(t: u64, s: u64) -> u64", "    ensures { λ r. ⌜ r ≡ at t s ⌝ }", "{"]
+    out += ["    if LARGEST < t {", "        return 0;", "    }", "    if LARGEST < s {", "        return 0;", "    }"]
+    out += ["    FORMS[t as usize][s as usize]", "}", ""]
+    for t, row in enumerate(rows):
+        out += [f"fn row{t}(s: u64) -> u64", f"    ensures {{ λ r. ⌜ r ≡ at {t} s ⌝ }}", "{", "    match s {"]
+        out += [f"        {s} => {row[s]}," for s in range(t + 1)]
+        out += [f"        _ => listed({t}, s),", "    }", "}", ""]
+    out += ["// The table's entry, by a match whose arms are literals: one load from read-only memory."]
+    out += ["pub fn entry(t: u64, s: u64) -> u64", "    ensures { λ r. ⌜ r ≡ at t s ⌝ }", "{", "    match t {"]
+    out += [f"        {t} => row{t}(s)," for t in range(SIZE)]
+    out += ["        _ => listed(t, s),", "    }", "}"]
+    return "\n".join(out) + "\n"
+
+
+def antt(rows):
+    out = ["-- The table of counts as a list of rows: what the array of src/table.rt holds. Written by table.py; not edited by hand."]
+    out += ["-- proofs/Table.antt proves that its entries are N(t, s), so nothing here has to be believed. Definitions only."]
+    out += ["use mathlib.Core.List.{List, [], _∷_}", "use Prim.Native.Nat.{ℕ}", "use lib.ListN.{getD}", ""]
+    out += ["abbrev pub table : List (List ℕ)", "table ="]
+    out += ["    (" + " ∷ ".join(str(n) for n in row) + " ∷ []) ∷" for row in rows]
+    out[-1] += " []"
+    out += ["", "-- the entry in row t and column s, and 0 outside the table", "abbrev pub at : ℕ → ℕ → ℕ", "at t s = getD (getD table t []) s 0"]
+    return "\n".join(out) + "\n"
+
+
+def main():
+    rows = triangle()
+    stale = 0
+    for name, text in (("src/table.rt", rattle(rows)), ("specs/Table.antt", antt(rows))):
+        path = HERE / name
+        if sys.argv[1:] == ["--check"]:
+            if not path.exists() or path.read_text() != text:
+                print(f"{name} is not what table.py writes")
+                stale = 1
+        else:
+            path.write_text(text)
+    return stale
+
+
+if __name__ == "__main__":
+    sys.exit(main())
