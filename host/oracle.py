@@ -1,6 +1,6 @@
 """Document 01 once more, as plainly as it can be written, for the tests: slow, and sharing no code and no idea with crates/.
 
-count(t, s) and check(t, s, beats) answer (refusal, place, value) as the document's table does.
+count(t, s) and check(t, s, beats) answer refusal and place as the document's table does; successor(t, s, beats) is the step.
 """
 from math import comb
 
@@ -19,6 +19,13 @@ TABLE_1 = [
     [1, 7, 27, 75, 165, 297, 429, 429],
     [1, 8, 35, 110, 275, 572, 1001, 1430, 1430],
 ]
+
+
+# The words of Figure 2.3 of source 001, as printed there. [P9]
+FIGURE_2_3 = (
+    "11110000 10111000 11011000 11101000 10110100 11010100 10101100 "
+    "11001100 11100100 10110010 11010010 10101010 11001010 11100010"
+).split()
 
 
 def is_schedule(t, s, beats):
@@ -62,3 +69,39 @@ def check(t, s, beats):
         if beat == 0 and before.count(1) - before.count(0) == 0:
             return (5, place)
     return ACCEPTED if beats.count(1) == t else (6, 0)
+
+
+def shifted(beats, k):
+    """The k-th prefix shift, with positions from 1: the symbol at k goes to position 2."""
+    return beats[:1] + [beats[k - 1]] + beats[1 : k - 1] + beats[k:]
+
+
+def successor(t, s, beats):
+    """The next form of a schedule, by the rule as document 01 words it."""
+    rises = [k for k in range(2, len(beats) + 1) if beats[k - 2] == 0 and beats[k - 1] == 1]
+    if not rises:
+        return shifted(beats, len(beats)) if s > 0 else beats
+    k = rises[0]
+    if k + 1 <= len(beats) and is_schedule(t, s, shifted(beats, k + 1)):
+        return shifted(beats, k + 1)
+    return shifted(beats, k)
+
+
+def changed(old, new):
+    return sum(1 for a, b in zip(old, new) if a != b)
+
+
+# [E6]
+def run(t, s, beats, k):
+    """Refusal, place, changed beats and the schedule left."""
+    refusal, place = check(t, s, beats)
+    if not refusal and k > 65535:
+        refusal = 13
+    if refusal:
+        return (refusal, place, 0, beats)
+    worked = 0
+    for _ in range(k):
+        after = successor(t, s, beats)
+        worked += changed(beats, after)
+        beats = after
+    return (0, 0, worked, beats)

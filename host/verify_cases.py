@@ -49,7 +49,55 @@ def check(t, s, text):
     return refused(refusal, place) if refusal else "accepted"
 
 
+def text_of(beats):
+    return "".join(str(b) if b < 10 else f"({b})" for b in beats) or "-"
+
+
+def circle(t, s):
+    """The forms from t ones then s zeros on, until that form comes again."""
+    top = [1] * t + [0] * s
+    forms = [top]
+    while (after := oracle.successor(t, s, forms[-1])) != top:
+        forms.append(after)
+    assert len(forms) == oracle.forms(t, s) and all(oracle.is_schedule(t, s, f) for f in forms)
+    return forms
+
+
+def order(t, s):
+    forms = [text_of(f) for f in circle(int(t), int(s))]
+    assert (t, s) != ("4", "4") or forms == oracle.FIGURE_2_3
+    return " ".join(forms + forms[:1])
+
+
+def round_of(t, s):
+    forms = circle(int(t), int(s))
+    worked = sum(oracle.changed(a, b) for a, b in zip(forms, forms[1:] + forms[:1]))
+    assert int(t) < 2 or int(s) < 1 or worked == 2 * len(forms) + 2 * oracle.forms(int(t) - 1, int(s) - 1) - 2
+    digest = 0
+    for beat in itertools.chain(*forms):
+        digest = (digest * 31 + beat) % 4294967291
+    return f"{len(forms)} {worked} {digest} {text_of(forms[0])}"
+
+
+def run(k, t, s, text):
+    refusal, place, worked, left = oracle.run(int(t), int(s), beats_of(text), int(k))
+    return f"{refused(refusal, place) if refusal else worked} {text_of(left)}"
+
+
+def step(t, s, text):
+    return run("1", t, s, text)
+
+
+def changed(t, s, text):
+    return step(t, s, text).rsplit(" ", 1)[0]
+
+
 KINDS = [
+    ("order", re.compile(r"order (\d+) (\d+): (.*)"), order),
+    ("round", re.compile(r"round (\d+) (\d+): (.*)"), round_of),
+    ("run", re.compile(r"run (\d+) (\d+) (\d+) (\S+): (.*)"), run),
+    ("next", re.compile(r"next (\d+) (\d+) (\S+): (.*)"), step),
+    ("changed", re.compile(r"changed (\d+) (\d+) (\S+): (.*)"), changed),
     ("counts", re.compile(r"counts of (\d+): (.*)"), counts_of),
     ("lists", re.compile(r"lists of (\d+): (.*)"), lists_of),
     ("count", re.compile(r"count (\d+) (\d+): (.*)"), count),

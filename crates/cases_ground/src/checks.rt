@@ -88,16 +88,6 @@ pub fn wrong_take_ups() {
     ask(4, 0, &[1, 1, 1, 0]);
 }
 
-// Ones at the first n beats.
-fn raise(beats: &mut [u8], n: usize) {
-    if beats.len() < n {
-        return;
-    }
-    for i in 0..n {
-        beats[i] = 1;
-    }
-}
-
 // As many beats as a schedule may have, and one more; the last and then the first beat at fault.
 pub fn limits() {
     let up = [1u8; 32];
@@ -106,9 +96,9 @@ pub fn limits() {
     ask(33, 0, &over);
     ask(32, 1, &over);
     let mut full = [0u8; 64];
-    raise(&mut full, 32);
+    show::raise(&mut full, 32);
     ask(32, 32, &full);
-    raise(&mut full, 33);
+    show::raise(&mut full, 33);
     ask(32, 32, &full);
     full[63] = 7;
     ask(32, 32, &full);

@@ -1,20 +1,66 @@
 -- The examples of document 01, "Examples on both sides", that are marked P, in one list. proofs/Examples.antt shows that each holds.
 -- A later example is one more line of the list; one of a new kind is also one more case of Example and of Holds. Definitions only.
---     Example      an example: `counts t s n` says that there are n forms of t, s
+--     Example      `counts t s n`: there are n forms of t, s
+--                  `follows t s l`: from t ones then s zeros on, the forms stand in the order of l
+--                  `changes t s l`: the steps from there on change as many beats as l says
+--                  `rounds t s n`: a whole round changes n beats
 --     Holds        what an example says, of the definitions
---     examples     the list [P7] [E1]
+--     examples     the list [P7] [E1] [E3]
 use mathlib.Core.List.{List, [], _∷_}
 use mathlib.Core.Path.{_≡_}
 use Prim.Native.Nat.{ℕ}
 use Rattle.triangle.specs.Count.{N}
+use Rattle.circle.specs.Step.{next, top}
+use Rattle.circle.specs.Walk.{changed, worked}
 
 pub data Example : Type 0 where
   counts : (t s n : ℕ) → Example
+  follows : (t s : ℕ) → List (List ℕ) → Example
+  changes : (t s : ℕ) → List ℕ → Example
+  rounds : (t s n : ℕ) → Example
+
+-- b, and each form after it, in the order of a list
+abbrev pub InOrder : List ℕ → List (List ℕ) → Type 0
+InOrder b [] = Unit {0}
+InOrder b (c ∷ l) = (b ≡ c) × InOrder (next b) l
+
+-- the changed beats of the steps from b on
+abbrev pub Changing : List ℕ → List ℕ → Type 0
+Changing b [] = Unit {0}
+Changing b (n ∷ l) = (changed b (next b) ≡ n) × Changing (next b) l
 
 abbrev pub Holds : Example → Type 0
 Holds (counts t s n) = N t s ≡ n
+Holds (follows t s l) = InOrder (top t s) l
+Holds (changes t s l) = Changing (top t s) l
+Holds (rounds t s n) = worked (N t s) (top t s) ≡ n
 
 abbrev pub examples : List Example
 examples =
+    follows 3 2 (
+    (1 ∷ 1 ∷ 1 ∷ 0 ∷ 0 ∷ []) ∷
+    (1 ∷ 0 ∷ 1 ∷ 1 ∷ 0 ∷ []) ∷
+    (1 ∷ 1 ∷ 0 ∷ 1 ∷ 0 ∷ []) ∷
+    (1 ∷ 0 ∷ 1 ∷ 0 ∷ 1 ∷ []) ∷
+    (1 ∷ 1 ∷ 0 ∷ 0 ∷ 1 ∷ []) ∷
+    (1 ∷ 1 ∷ 1 ∷ 0 ∷ 0 ∷ []) ∷ []
+    ) ∷
+    changes 3 2 (2 ∷ 2 ∷ 4 ∷ 2 ∷ 2 ∷ []) ∷
+    rounds 3 2 12 ∷
+    follows 3 3 (
+    (1 ∷ 1 ∷ 1 ∷ 0 ∷ 0 ∷ 0 ∷ []) ∷
+    (1 ∷ 0 ∷ 1 ∷ 1 ∷ 0 ∷ 0 ∷ []) ∷
+    (1 ∷ 1 ∷ 0 ∷ 1 ∷ 0 ∷ 0 ∷ []) ∷
+    (1 ∷ 0 ∷ 1 ∷ 0 ∷ 1 ∷ 0 ∷ []) ∷
+    (1 ∷ 1 ∷ 0 ∷ 0 ∷ 1 ∷ 0 ∷ []) ∷ []
+    ) ∷
+    follows 2 1 ((1 ∷ 1 ∷ 0 ∷ []) ∷ (1 ∷ 0 ∷ 1 ∷ []) ∷ (1 ∷ 1 ∷ 0 ∷ []) ∷ []) ∷
+    rounds 2 1 4 ∷
+    follows 1 1 ((1 ∷ 0 ∷ []) ∷ (1 ∷ 0 ∷ []) ∷ []) ∷
+    changes 1 1 (0 ∷ []) ∷
+    follows 4 0 ((1 ∷ 1 ∷ 1 ∷ 1 ∷ []) ∷ (1 ∷ 1 ∷ 1 ∷ 1 ∷ []) ∷ []) ∷
+    changes 4 0 (0 ∷ []) ∷
+    follows 0 0 ([] ∷ [] ∷ []) ∷
+    changes 0 0 (0 ∷ []) ∷
     counts 5 3 28 ∷
     counts 8 5 572 ∷ []

@@ -5,11 +5,12 @@ use mathlib.Core.Path.{_≡_, refl}
 use Prim.Native.Nat.{ℕ}
 use native.Mathlib.Omega.{arith}
 use lib.ListN.{length, getD, take}
+use Rattle.bounded.specs.Bounded.{firstFrom}
 use Rattle.refusal.specs.declared.Refusal.the-variants.{TooManyTasks, MoreDownThanUp, WrongLength, BadBeat, EmptyHand, WrongTakeUps}
 use Rattle.refusal.specs.declared.Verdict.{Verdict}
 use Rattle.triangle.specs.Count.{N}
 use Rattle.schedule.specs.Schedule.{ones, zeros, Schedule, Lists}
-use Rattle.schedule.specs.Check.{firstFrom, checked}
+use Rattle.schedule.specs.Check.{checked}
 use Rattle.schedule.specs.Meaning.{First, Bad, Bare}
 use Rattle.schedule.proofs.Hand.{plays, plays-schedule}
 use Rattle.schedule.proofs.Theorems.{lists-N}

@@ -1,7 +1,9 @@
 -- A schedule by a running test, from its first beat and from its last.
 --     plays h b                       with h in hand before them, no beat of b is bad and none sets down with nothing in hand
 --     schedule-plays, plays-schedule  the beats of a schedule play from an empty hand, and beats that play so are a schedule of their counts [A3]
+--     schedule-zeros, schedule-le     a schedule of t, s has s zeros, no more than t
 --     Turned                          the same on a list written last beat first: each 0 stands before (that is, after in time) more ones than zeros
+--     level                           a turned list has no more zeros than ones
 --     turned, unturned                beats that play, turned round, are Turned, and the other way about
 --     ones-turn, zeros-turn           turning a list round keeps its counts
 -- Assumes nothing.
@@ -11,6 +13,7 @@ use mathlib.Core.Path.{_≡_, refl, _∙_, ap, sym}
 use Prim.Native.Nat.{ℕ, zero, suc, _+_, _≤_, _<_}
 use native.Mathlib.Omega.{arith}
 use lib.ListN.{length, getD, take}
+use lib.Seq.{take-length}
 use Rattle.schedule.specs.Schedule.{ones, zeros, Schedule}
 use Rattle.schedule.proofs.Tally.{tally}
 
@@ -58,6 +61,9 @@ module _ {t s : ℕ} {b : List ℕ} where
   pub schedule-zeros : Schedule t s b → zeros b ≡ s
   schedule-zeros p = omega (arith, tally b (p .beats), p .size, p .taken)
 
+  pub schedule-le : Schedule t s b → s ≤ t
+  schedule-le p = omega (arith, p .taken, schedule-zeros p, rw (take-length b) at (p .ahead (length b) (omega arith)))
+
   pub plays-schedule : plays 0 b ≡ true → ones b ≡ t → zeros b ≡ s → Schedule t s b
   plays-schedule p o z =
       record {
@@ -85,6 +91,12 @@ pub data Turned : List ℕ → Type 0 where
   start : Turned []
   down : {r : List ℕ} → zeros r < ones r → Turned r → Turned (0 ∷ r)
   up : {r : List ℕ} → Turned r → Turned (1 ∷ r)
+
+pub level : {r : List ℕ} → Turned r → zeros r ≤ ones r
+unfolding ones zeros
+level start = omega arith
+level (down h q) = h
+level (up q) = omega (arith, level q)
 
 pub turned : (h : ℕ) (b r : List ℕ) → h + zeros r ≡ ones r → Turned r → plays h b ≡ true → Turned (reverseAux b r)
 unfolding plays ones zeros

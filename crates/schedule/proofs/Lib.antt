@@ -1,4 +1,3 @@
-pub mod First
 pub mod Tally
 pub mod Scan
 pub mod Rows
@@ -7,5 +6,6 @@ pub mod Verdicts
 pub mod Theorems
 pub mod Hand
 pub mod Pigeonhole
+pub mod Distinct
 pub mod Listing
 pub mod Cases

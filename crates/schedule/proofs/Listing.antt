@@ -1,4 +1,5 @@
 -- A list of all schedules of t, s, by their last beat: those of t−1, s with a 1 behind them, then those of t, s−1 with a 0.
+--     map-lists        a list of all that P holds of, mapped to all that Q holds of
 --     joined-lists     the two parts of the list together
 --     schedules t s    the list
 --     schedules-lists, schedules-length     it has every schedule exactly once, and is N(t, s) long
@@ -17,12 +18,33 @@ use lib.Seq.{getD-append-add}
 use Rattle.triangle.specs.Count.{N}
 use Rattle.triangle.proofs.Count.{N-zero, N-over, N-add}
 use Rattle.schedule.specs.Schedule.{ones, zeros, Schedule, Lists}
-use Rattle.schedule.proofs.Hand.{plays, schedule-plays, schedule-zeros, plays-schedule, Turned, start, down, up, turned, unturned, ones-turn, zeros-turn}
+use Rattle.schedule.proofs.Hand.{plays, schedule-plays, schedule-zeros, plays-schedule, Turned, start, down, up, level, turned, unturned, ones-turn, zeros-turn}
 
 map-at : (f : List ℕ → List ℕ) (l : List (List ℕ)) (i : ℕ) → i < length l → getD (map f l) i [] ≡ f (getD l i [])
 map-at f [] i h = absurd (omega arith)
 map-at f (x ∷ l) zero h = refl
 map-at f (x ∷ l) (suc i) h = map-at f l i (omega arith)
+
+-- a list of what P holds of, mapped to what Q holds of
+pub map-lists : (P Q : List ℕ → Type 0) (f : List ℕ → List ℕ)
+    → ((x : List ℕ) → P x → Q (f x))
+    → ((y : List ℕ) → Q y → (x : List ℕ) × P x × (f x ≡ y))
+    → ((x y : List ℕ) → f x ≡ f y → x ≡ y)
+    → (l : List (List ℕ)) → Lists P l → Lists Q (map f l)
+map-lists P Q f onto from one l p =
+    record {
+      sound = λ i h. rw (map-at f l i (inside i h)) (onto (getD l i []) (p .sound i (inside i h)));
+      complete = λ y q.
+          let source = from y q in
+          let found = p .complete (source .0) (source .1) in
+          (found .0, rw (length-map l f) (found .1), map-at f l (found .0) (found .1) ∙ ap f (found .2) ∙ source .2);
+      once = λ i j h k e.
+          p .once i j (inside i h) (inside j k)
+          (one (getD l i []) (getD l j []) (sym (map-at f l i (inside i h)) ∙ e ∙ map-at f l j (inside j k)));
+    }
+  where
+    inside : (i : ℕ) → i < length (map f l) → i < length l
+    inside i h = rw (length-map l f) at h
 
 -- a place in two lists joined, of n and of m things
 data Side (n m i : ℕ) : Type 0 where
@@ -96,12 +118,6 @@ record Of (t s : ℕ) (r : List ℕ) : Type 0 where
   kept : Turned r
   ups : ones r ≡ t
   downs : zeros r ≡ s
-
-level : {r : List ℕ} → Turned r → zeros r ≤ ones r
-unfolding ones zeros
-level start = omega arith
-level (down h q) = h
-level (up q) = omega (arith, level q)
 
 -- the schedules of t, s, last beat first
 backward : ℕ → ℕ → List (List ℕ)
@@ -207,18 +223,5 @@ schedules-length t s = length-map (backward t s) reverse ∙ backward-length t s
 pub schedules-lists : (t s : ℕ) → Lists (Schedule t s) (schedules t s)
 unfolding schedules
 schedules-lists t s =
-    record {
-      sound = λ i h. rw (map-at reverse (backward t s) i (inside i h)) (schedule-of t s (getD (backward t s) i []) (backward-lists t s .sound i (inside i h)));
-      complete = λ b p.
-          let found = backward-lists t s .complete (reverse b) (of-schedule t s b p) in
-          (found .0, rw (length-map (backward t s) reverse) (found .1), map-at reverse (backward t s) (found .0) (found .1) ∙ ap reverse (found .2) ∙ reverse-reverse b);
-      once = λ i j h k e.
-          backward-lists t s .once i j (inside i h) (inside j k)
-          (turn-same (getD (backward t s) i []) (getD (backward t s) j []) (sym (map-at reverse (backward t s) i (inside i h)) ∙ e ∙ map-at reverse (backward t s) j (inside j k)));
-    }
-  where
-    inside : (i : ℕ) → i < length (map reverse (backward t s)) → i < length (backward t s)
-    inside i h = rw (length-map (backward t s) reverse) at h
-
-    turn-same : (r q : List ℕ) → reverse r ≡ reverse q → r ≡ q
-    turn-same r q e = sym (reverse-reverse r) ∙ ap reverse e ∙ reverse-reverse q
+    map-lists (Of t s) (Schedule t s) reverse (schedule-of t s) (λ b p. (reverse b, of-schedule t s b p, reverse-reverse b))
+    (λ r q e. sym (reverse-reverse r) ∙ ap reverse e ∙ reverse-reverse q) (backward t s) (backward-lists t s)

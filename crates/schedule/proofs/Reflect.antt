@@ -17,9 +17,10 @@ use borrow.Author.Tests.{ltb-true, lt-ltb, eqb-true, eq-eqb, leb-true, le-leb}
 use lib.Dec.{eqb, leb}
 use lib.ListN.{length, getD, take}
 use Rattle.schedule.specs.Schedule.{ones, zeros, Schedule}
-use Rattle.schedule.specs.Check.{first, isBad, isBare, badBeat, emptyHand}
+use Rattle.schedule.specs.Check.{isBad, isBare, badBeat, emptyHand}
 use Rattle.schedule.specs.Meaning.{First, Nowhere, Bad, Bare}
-use Rattle.schedule.proofs.First.{first-holds, first-before, first-is, first-none}
+use Rattle.bounded.specs.Bounded.{first}
+use Rattle.bounded.proofs.First.{first-holds, first-before, first-is, first-none}
 use Rattle.schedule.proofs.Tally.{prefix-up, prefix-down}
 use Rattle.schedule.proofs.Rows.{sound-beats}
 

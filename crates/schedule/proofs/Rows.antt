@@ -16,7 +16,7 @@ use Rattle.refusal.specs.declared.Verdict.{Verdict}
 use Rattle.refusal.specs.Order.{judge}
 use Rattle.schedule.specs.Schedule.{ones, zeros}
 use Rattle.schedule.specs.Check.{badBeat, emptyHand, isBad, beatRows}
-use Rattle.schedule.proofs.First.{first-before}
+use Rattle.bounded.proofs.First.{first-before}
 use Rattle.schedule.proofs.Tally.{tally}
 
 pub sound-beats : (b : List ℕ) → length b ≤ badBeat b → (k : ℕ) → k < length b → getD b k 0 ≤ 1

@@ -13,8 +13,8 @@ use borrow.Author.Tests.{lt-ltb, le-ltb, le-leb, lt-leb, eq-eqb, ne-eqb, eqb-tru
 use lib.Dec.{eqb, leb}
 use lib.ListN.{length, getD, take}
 use Rattle.schedule.specs.Schedule.{ones, zeros}
-use Rattle.schedule.specs.Check.{first, isBad, isBare, badBeat, emptyHand}
-use Rattle.schedule.proofs.First.{first-is, first-none}
+use Rattle.schedule.specs.Check.{isBad, isBare, badBeat, emptyHand}
+use Rattle.bounded.proofs.First.{first-is, first-none}
 use Rattle.schedule.proofs.Tally.{prefix-up, prefix-down}
 
 pub record Sound (b : List ℕ) (left : ℕ) : Type 0 where

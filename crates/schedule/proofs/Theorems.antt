@@ -1,17 +1,25 @@
 -- What the check's answer means, and that N counts, document 01, "A schedule", "How many forms" and "Refusal numbers".
 --     accepted-schedule, schedule-accepted     accepted exactly if the beats are a schedule of allowed counts [R4]
 --     refused-refuses, refuses-refused         each refusal exactly when its row holds and none before it does; the place is the first such beat
+--     isSchedule-true, true-isSchedule         the test of specs/Schedule.antt holds exactly of the schedules [A8]
 --     N-schedules, lists-N                     some list has every schedule of t, s exactly once and is N(t, s) long, and so is every such list [D3a] [N1]
 -- Assumes nothing.
+use mathlib.Core.Bool.{Bool, true, _&&_, and-eq-true-iff}
 use mathlib.Core.List.{List}
+use mathlib.Core.Logic.{_↔_}
 use mathlib.Core.Path.{_≡_, _∙_, subst}
-use Prim.Native.Nat.{ℕ}
-use lib.ListN.{length}
+use Prim.Native.Nat.{ℕ, suc, _+_}
+use native.Mathlib.Omega.{arith}
+use borrow.Author.Tests.{leb-true, le-leb, eqb-true, eq-eqb}
+use lib.Dec.{leb, eqb}
+use lib.ListN.{length, getD, take}
+use Rattle.bounded.specs.Bounded.{every}
+use Rattle.bounded.proofs.Every.{every-at, every-true}
 use Rattle.refusal.specs.declared.Refusal.{Refusal}
 use Rattle.refusal.specs.declared.Verdict.{Verdict}
 use Rattle.triangle.specs.Count.{N}
 use Rattle.counts.specs.Counts.{Allowed}
-use Rattle.schedule.specs.Schedule.{Schedule, Lists}
+use Rattle.schedule.specs.Schedule.{ones, zeros, Schedule, isSchedule, Lists}
 use Rattle.schedule.specs.Check.{checked}
 use Rattle.schedule.specs.Meaning.{Refuses, Right}
 use Rattle.schedule.proofs.Pigeonhole.{lists-length}
@@ -30,6 +38,47 @@ module _ (t s : ℕ) (b : List ℕ) where
 
   pub refuses-refused : (why : Refusal) → Refuses t s b why → checked t s b ≡ Verdict.Refused why
   refuses-refused why r = right-checked t s b (Verdict.Refused why) r
+
+module _ (t s : ℕ) (b : List ℕ) where
+  -- the four parts of the test
+  parts : (isSchedule t s b ≡ true)
+      ↔ ((every (λ k. leb (getD b k 0) 1) (length b) ≡ true) × (eqb (length b) (t + s) ≡ true) × (eqb (ones b) t ≡ true) × (every (λ k. leb (zeros (take k b)) (ones (take k b))) (suc (length b)) ≡ true))
+  unfolding isSchedule
+  parts = (
+    λ e. let x = and-eq-true-iff (beats && size && taken) ahead .0 e in let y = and-eq-true-iff (beats && size) taken .0 (x .0) in let z = and-eq-true-iff beats size .0 (y .0) in (z .0, z .1, y .1, x .1),
+    λ p. and-eq-true-iff (beats && size && taken) ahead .1 (and-eq-true-iff (beats && size) taken .1 (and-eq-true-iff beats size .1 (p .0, p .1), p .2), p .3),
+  )
+    where
+      beats : Bool
+      beats = every (λ k. leb (getD b k 0) 1) (length b)
+
+      size : Bool
+      size = eqb (length b) (t + s)
+
+      taken : Bool
+      taken = eqb (ones b) t
+
+      ahead : Bool
+      ahead = every (λ k. leb (zeros (take k b)) (ones (take k b))) (suc (length b))
+
+  pub true-isSchedule : isSchedule t s b ≡ true → Schedule t s b
+  true-isSchedule e =
+      let p = parts .0 e in
+      record {
+        beats = λ k l. leb-true (getD b k 0) 1 (every-at (λ k. leb (getD b k 0) 1) (length b) (p .0) k l);
+        size = eqb-true (length b) (t + s) (p .1);
+        taken = eqb-true (ones b) t (p .2);
+        ahead = λ k l. leb-true (zeros (take k b)) (ones (take k b)) (every-at (λ k. leb (zeros (take k b)) (ones (take k b))) (suc (length b)) (p .3) k (omega arith));
+      }
+
+  pub isSchedule-true : Schedule t s b → isSchedule t s b ≡ true
+  isSchedule-true p =
+      parts .1 (
+        every-true (λ k. leb (getD b k 0) 1) (length b) (λ k l. le-leb (getD b k 0) 1 (p .beats k l)),
+        eq-eqb (length b) (t + s) (p .size),
+        eq-eqb (ones b) t (p .taken),
+        every-true (λ k. leb (zeros (take k b)) (ones (take k b))) (suc (length b)) (λ k l. le-leb (zeros (take k b)) (ones (take k b)) (p .ahead k (omega arith))),
+      )
 
 module _ (t s : ℕ) where
   pub N-schedules : (l : List (List ℕ)) × Lists (Schedule t s) l × (length l ≡ N t s)

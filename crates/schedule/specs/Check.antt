@@ -1,26 +1,19 @@
 -- The check of a lent list of beats, document 01, "Refusal numbers" (rows 1 to 6, and Order: schedules). Definitions only.
---     first f n     the first k below n at which the test f holds; n where it holds at none
 --     badBeat       the first beat that is neither 0 nor 1; the length where there is none
 --     emptyHand     the first beat that sets down with nothing in hand: a 0 with no more ones than zeros before it; the length where there is none
 --     checkRows     the refusals that a lent schedule can get, in their order: those of its counts first [R9]
 --     checked       the verdict on it
-use mathlib.Core.Bool.{Bool, cond, not, _&&_}
+use mathlib.Core.Bool.{Bool, not, _&&_}
 use mathlib.Core.List.{List, [], _∷_, _++_}
-use Prim.Native.Nat.{ℕ, zero, suc, _+_}
+use Prim.Native.Nat.{ℕ, _+_}
 use lib.Dec.{eqb, leb, ltb}
 use lib.ListN.{length, getD, take}
+use Rattle.bounded.specs.Bounded.{first}
 use Rattle.refusal.specs.declared.Refusal.the-variants.{WrongLength, BadBeat, EmptyHand, WrongTakeUps}
 use Rattle.refusal.specs.declared.Verdict.{Verdict}
 use Rattle.refusal.specs.Order.{Row, _⇒_, judge}
 use Rattle.counts.specs.Counts.{countRows}
 use Rattle.schedule.specs.Schedule.{ones, zeros}
-
-unfoldable pub firstFrom : (ℕ → Bool) → ℕ → ℕ → ℕ
-firstFrom f i zero = i
-firstFrom f i (suc n) = cond (f i) i (firstFrom f (suc i) n)
-
-abbrev pub first : (ℕ → Bool) → ℕ → ℕ
-first f n = firstFrom f 0 n
 
 abbrev pub isBad : List ℕ → ℕ → Bool
 isBad b k = ltb 1 (getD b k 0)

@@ -1,5 +1,6 @@
-// Prints answers for the programs cases_*, to standard output. What a program prints is held to its
-// stored output and not proved, so these contracts say nothing; each function is proved safe and ending.
+// Prints answers for the programs cases_*, to standard output, and makes inputs for them. What a program
+// prints is held to its stored output and not proved, so these contracts say nothing; each function is
+// proved safe and ending.
 use refusal::Answer;
 use refusal::Verdict;
 
@@ -12,7 +13,8 @@ pub fn number(n: u64) {
     io::print_decimal(1, n);
 }
 
-fn wide(beat: u8) -> u64 {
+// A beat as a number.
+pub fn wide(beat: u8) -> u64 {
     beat as u64
 }
 
@@ -57,5 +59,15 @@ pub fn answer(a: Answer) {
         number(a.value());
     } else {
         verdict(v);
+    }
+}
+
+// Ones at the first n beats.
+pub fn raise(beats: &mut [u8], n: usize) {
+    if beats.len() < n {
+        return;
+    }
+    for i in 0..n {
+        beats[i] = 1;
     }
 }

@@ -1,4 +1,3 @@
-pub mod Every
 pub mod Count
 pub mod Binomial
 pub mod Rule

@@ -16,7 +16,8 @@ use lib.Dec.{T, eqb, leb, ltb, eqb→eq, ltb→lt}
 use lib.ListN.{length, getD, List·getD-eq-default}
 use Rattle.triangle.specs.Count.{N, largest, counted}
 use Rattle.triangle.specs.Table.{table, at}
-use Rattle.triangle.proofs.Every.{every, every-at}
+use Rattle.bounded.specs.Bounded.{every}
+use Rattle.bounded.proofs.Every.{every-T}
 use Rattle.triangle.proofs.Count.{N-over}
 
 -- what the addition rule says of the entry at t, s, from the table's other entries
@@ -29,19 +30,20 @@ throughout : (ℕ → ℕ → Bool) → Bool
 throughout f = every (λ t. every (λ s. f t s) (suc largest)) (suc largest)
 
 ruled : T (throughout (λ t s. eqb (at t s) (rule t s)))
-unfolding throughout rule
+unfolding throughout rule every
 ruled = tt
 
 sized : T (eqb (length table) (suc largest)) × T (every (λ t. eqb (length (getD table t [])) (suc largest)) (suc largest))
+unfolding every
 sized = (tt, tt)
 
 fitting : T (throughout (λ t s. ltb (at t s) (2 ^ 64)))
-unfolding throughout
+unfolding throughout every
 fitting = tt
 
 throughout-at : (f : ℕ → ℕ → Bool) → T (throughout f) → (t s : ℕ) → t ≤ largest → s ≤ largest → T (f t s)
 unfolding throughout
-throughout-at f h t s k l = every-at (f t) (suc largest) (every-at (λ i. every (f i) (suc largest)) (suc largest) h t (omega arith)) s (omega arith)
+throughout-at f h t s k l = every-T (f t) (suc largest) (every-T (λ i. every (f i) (suc largest)) (suc largest) h t (omega arith)) s (omega arith)
 
 at-rule : (t s : ℕ) → t ≤ largest → s ≤ largest → at t s ≡ rule t s
 at-rule t s h k = eqb→eq (at t s) (rule t s) (throughout-at (λ i j. eqb (at i j) (rule i j)) ruled t s h k)
@@ -62,7 +64,7 @@ column-outside : (l : List (List ℕ)) (n : ℕ) → length l ≤ n → T (every
 column-outside l n h f t s k = elim (decLt t n) [ yes inside ↦ List·getD-eq-default (getD l t []) 0 (short inside) | no outside ↦ row-outside l n h t s (omega arith) ]
   where
     short : t < n → length (getD l t []) ≤ s
-    short inside = omega (arith, eqb→eq (length (getD l t [])) n (every-at (λ i. eqb (length (getD l i [])) n) n f t inside))
+    short inside = omega (arith, eqb→eq (length (getD l t [])) n (every-T (λ i. eqb (length (getD l i [])) n) n f t inside))
 
 pub at-row-outside : (t s : ℕ) → largest < t → at t s ≡ 0
 at-row-outside t s h = row-outside table (suc largest) (omega arith) t s h

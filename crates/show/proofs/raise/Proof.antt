@@ -1,10 +1,10 @@
--- `cases_ground::checks::raise` is safe and ends. The invariant: the list keeps its length. Assumes nothing.
+-- `show::raise` is safe and ends. The invariant: the list keeps its length. Assumes nothing.
 use borrow.Author.Needs.{needs}
 use Prim.Native.Nat.{_≤_, _-_}
 use lib.ListN.{length}
 use mathlib.Core.Path.{_≡_}
-use Rattle.cases_ground.proofs.checks.raise.Statement.{statement}
-use Rattle.cases_ground.proofs.checks.raise.Tie as tie
+use Rattle.show.proofs.raise.Statement.{statement}
+use Rattle.show.proofs.raise.Tie as tie
 
 abbrev Inv-loop : tie.InvT-loop
 Inv-loop beats₀ n i₀ beats i = (length beats ≡ length beats₀) × (n ≤ length beats₀) × (i ≤ n)

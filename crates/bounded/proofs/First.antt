@@ -11,7 +11,7 @@ use Prim.Native.Nat.{ℕ, zero, suc, _+_, _≤_, _<_}
 use native.Mathlib.Nat.{zero-add}
 use native.Mathlib.Omega.{arith}
 use native.Mathlib.Decide.{decLt}
-use Rattle.schedule.specs.Check.{firstFrom, first}
+use Rattle.bounded.specs.Bounded.{firstFrom, first}
 
 -- what is to be known of the answer k of a search from i over n places
 record Found (f : ℕ → Bool) (i n k : ℕ) : Type 0 where

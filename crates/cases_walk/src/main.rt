@@ -1,0 +1,14 @@
+// Walks the circles of small counts and runs the examples of document 01, "The step" and "Easy to get
+// wrong", and the fourteen words of Figure 2.3 of source 001. The file stdout says what it must print;
+// each line of it is worked out again by host/oracle.py, without this code.
+mod circles;
+mod runs;
+
+fn main() {
+    circles::print_rows(5, true);
+    circles::print_rows(9, false);
+    runs::steps();
+    runs::refusals();
+    runs::lengths();
+    runs::long();
+}

@@ -1,0 +1,87 @@
+// Single steps and runs on both sides of their limits. Each line has the input, the answer and what is
+// left in the lent schedule.
+
+fn print_input(t: u64, s: u64, beats: &[u8]) {
+    show::number(t);
+    show::text(b" ");
+    show::number(s);
+    show::text(b" ");
+    show::beats(beats);
+}
+
+// The beats that a step would change, and then the step.
+fn ask(t: u64, s: u64, beats: &mut [u8]) {
+    show::text(b"changed ");
+    print_input(t, s, beats);
+    show::text(b": ");
+    show::answer(circle::changed(t, s, beats));
+    show::text(b"\n");
+    show::text(b"next ");
+    print_input(t, s, beats);
+    show::text(b": ");
+    show::answer(circle::next(t, s, beats));
+    show::text(b" ");
+    show::beats(beats);
+    show::text(b"\n");
+}
+
+fn ask_run(t: u64, s: u64, beats: &mut [u8], k: u64) {
+    show::text(b"run ");
+    show::number(k);
+    show::text(b" ");
+    print_input(t, s, beats);
+    show::text(b": ");
+    show::answer(circle::run(t, s, beats, k));
+    show::text(b" ");
+    show::beats(beats);
+    show::text(b"\n");
+}
+
+// Every line of "Easy to get wrong" that concerns the step, and the forms with one form only.
+pub fn steps() {
+    ask(3, 2, &mut [1, 1, 0, 0, 1]);
+    ask(3, 2, &mut [1, 0, 1, 0, 1]);
+    ask(3, 2, &mut [1, 1, 1, 0, 0]);
+    ask(1, 1, &mut [1, 0]);
+    ask(4, 0, &mut [1, 1, 1, 1]);
+    ask(0, 0, &mut []);
+}
+
+// The refusals of the step and of the run in their order, with what is left.
+pub fn refusals() {
+    ask(33, 0, &mut [1, 1]);
+    ask(2, 3, &mut [1, 1, 0, 0, 0]);
+    ask(3, 2, &mut [1, 1, 0, 1]);
+    ask(3, 2, &mut [1, 1, 0, 2, 0]);
+    ask(2, 2, &mut [1, 0, 0, 1]);
+    ask(2, 1, &mut [1, 1, 1]);
+    ask_run(2, 1, &mut [1, 1, 1], 0);
+    ask_run(2, 1, &mut [1, 1, 1], 65536);
+    ask_run(2, 1, &mut [1, 1, 0], 65536);
+    ask_run(2, 1, &mut [1, 1, 0], 18446744073709551615);
+}
+
+// Runs that stop before the closing step, at it and past it, and of nothing.
+pub fn lengths() {
+    ask_run(3, 2, &mut [1, 1, 1, 0, 0], 0);
+    ask_run(3, 2, &mut [1, 1, 1, 0, 0], 1);
+    ask_run(3, 2, &mut [1, 1, 1, 0, 0], 4);
+    ask_run(3, 2, &mut [1, 1, 1, 0, 0], 5);
+    ask_run(3, 2, &mut [1, 1, 1, 0, 0], 6);
+    ask_run(3, 2, &mut [1, 0, 1, 0, 1], 7);
+    ask_run(1, 1, &mut [1, 0], 9);
+    ask_run(4, 0, &mut [1, 1, 1, 1], 9);
+    ask_run(0, 0, &mut [], 9);
+}
+
+// The longest runs, on few and on many forms.
+pub fn long() {
+    ask_run(3, 2, &mut [1, 1, 1, 0, 0], 65535);
+    ask_run(0, 0, &mut [], 65535);
+    ask_run(0, 0, &mut [], 65536);
+    let mut full = [0u8; 64];
+    show::raise(&mut full, 32);
+    ask_run(32, 32, &mut full, 65535);
+    ask_run(32, 32, &mut full, 65536);
+    ask_run(32, 32, &mut full, 65535);
+}

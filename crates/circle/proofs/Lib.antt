@@ -1,0 +1,13 @@
+pub mod Shape
+pub mod Moves
+pub mod Rank
+pub mod Advance
+pub mod Circle
+pub mod Work
+pub mod Dips
+pub mod Round
+pub mod Skipping
+pub mod Stores
+pub mod Forms
+pub mod Theorems
+pub mod Cases

@@ -1,0 +1,89 @@
+-- The circle and the work of its steps: the letter, demand 3, and document 01, "The step". Each once over t and s.
+--     next-form             the next form of a schedule of t, s is a schedule of t, s [O1a]
+--     OneWay                exactly one number of steps from 1 to N(t, s) leads from a to b
+--     circle                for every two forms there is that one number of steps [D3b]
+--     circle-start-last     from a form to itself it is N(t, s): the start is met last [D3c]
+--     dip-means, means-dip  a dip sets down at its second beat and is not the form after t ones and s zeros
+--     step-changes          from two ones and one zero on, a step changes 2 beats, and 4 exactly if it arrives at a dip [D3d] [O1b]
+--     one-form-changes      with one ones or no zeros there is one form, and a step changes none [O1c]
+--     stretch-changes       k steps change 2k beats and two more for each dip [D3e]
+--     round-changes         a round changes 2·N(t, s) + 2·N(t−1, s−1) − 2 beats [D3f]
+-- Assumes nothing.
+use mathlib.Core.Bool.{Bool, true, false, cond, _&&_, and-eq-true-iff}
+use mathlib.Core.List.{List, []}
+use mathlib.Core.Logic.{_⊎_, inl, inr, _↔_}
+use mathlib.Core.Path.{_≡_, refl, _∙_, ap, sym}
+use Prim.Native.Nat.{ℕ, zero, suc, _+_, _-_, _*_, _≤_, _<_}
+use native.Mathlib.Numerals.{sub-one}
+use native.Mathlib.Omega.{arith}
+use borrow.Author.Tests.{eqb-true, ltb-true}
+use lib.Dec.{eqb, ltb}
+use lib.ListN.{length, getD}
+use Rattle.triangle.specs.Count.{N}
+use Rattle.triangle.proofs.Count.{N-pos}
+use Rattle.schedule.specs.Schedule.{Schedule}
+use Rattle.schedule.proofs.Hand.{schedule-le}
+use Rattle.circle.specs.Step.{next, top}
+use Rattle.circle.specs.Walk.{steps, changed, worked, isDip, dips}
+use Rattle.circle.proofs.Circle.{next-schedule, round, reaches, once}
+use Rattle.circle.proofs.Work.{changed-self}
+use Rattle.circle.proofs.Dips.{is-dip, next-changed, worked-dips, idle-changed}
+use Rattle.circle.proofs.Round.{round-worked}
+
+pub next-form : {t s : ℕ} {b : List ℕ} → Schedule t s b → Schedule t s (next b)
+next-form = next-schedule
+
+pub record OneWay (t s : ℕ) (a b : List ℕ) : Type 0 where
+  pub count : ℕ
+  pub from : 1 ≤ count
+  pub to : count ≤ N t s
+  pub leads : steps count a ≡ b
+  pub only : (k : ℕ) → 1 ≤ k → k ≤ N t s → steps k a ≡ b → k ≡ count
+
+module _ {t s : ℕ} {a : List ℕ} (p : Schedule t s a) where
+  pub circle : {b : List ℕ} → Schedule t s b → OneWay t s a b
+  circle q =
+      let way = reaches p q in
+      record {
+        count = way .0;
+        from = way .1;
+        to = way .2;
+        leads = way .3;
+        only = λ k h l e. once k (way .0) p h l (way .1) (way .2) (e ∙ sym (way .3));
+      }
+
+  pub circle-start-last : circle p .count ≡ N t s
+  circle-start-last = sym (circle p .only (N t s) (N-pos t s (schedule-le p)) (omega arith) (round p))
+
+pub dip-means : (t s : ℕ) (c : List ℕ) → isDip t s c ≡ true → (getD c 1 0 ≡ 0) × (c ≡ next (top t s) → ⊥)
+unfolding isDip
+dip-means t s c e =
+    let both = and-eq-true-iff (eqb (getD c 1 0) 0) (ltb 0 (changed c (next (top t s)))) .0 e in
+    (eqb-true (getD c 1 0) 0 (both .0), λ same. omega (arith, ltb-true 0 (changed c (next (top t s))) (both .1), ap (changed c) (sym same), changed-self c))
+
+pub means-dip : (t s : ℕ) (c : List ℕ) → length c ≡ length (next (top t s)) → getD c 1 0 ≡ 0 → (c ≡ next (top t s) → ⊥) → isDip t s c ≡ true
+means-dip t s c n z e = is-dip t s c z n e
+
+module _ {t s : ℕ} (two : 2 ≤ t) (one : 1 ≤ s) where
+  module _ {b : List ℕ} (p : Schedule t s b) where
+    pub step-changes : ((changed b (next b) ≡ 4) × (isDip t s (next b) ≡ true)) ⊎ ((changed b (next b) ≡ 2) × (isDip t s (next b) ≡ false))
+    step-changes = by (isDip t s (next b)) refl (next-changed two one p)
+      where
+        by : (d : Bool) → isDip t s (next b) ≡ d → changed b (next b) ≡ 2 + 2 * cond (isDip t s (next b)) 1 0
+            → ((changed b (next b) ≡ 4) × (isDip t s (next b) ≡ true)) ⊎ ((changed b (next b) ≡ 2) × (isDip t s (next b) ≡ false))
+        by true e q = inl (q ∙ rw e, e)
+        by false e q = inr (q ∙ rw e, e)
+
+    pub stretch-changes : (k : ℕ) → worked k b ≡ 2 * k + 2 * dips t s k b
+    stretch-changes k = worked-dips two one k p
+
+    pub round-changes : worked (N t s) b ≡ 2 * N t s + 2 * N (t - 1) (s - 1) - 2
+    round-changes = by t s two one p
+      where
+        by : (t s : ℕ) → 2 ≤ t → 1 ≤ s → Schedule t s b → worked (N t s) b ≡ 2 * N t s + 2 * N (t - 1) (s - 1) - 2
+        by zero s h k q = absurd (omega arith)
+        by (suc t) zero h k q = absurd (omega arith)
+        by (suc t) (suc s) h k q = rw (sub-one (suc t), sub-one (suc s)) (round-worked t s q h)
+
+pub one-form-changes : {t s : ℕ} {b : List ℕ} → Schedule t s b → (t ≤ 1) ⊎ (s ≡ 0) → changed b (next b) ≡ 0
+one-form-changes = idle-changed

@@ -1,0 +1,32 @@
+-- Walks along the circle, document 01, "The step". Definitions only.
+--     steps k b       b after k steps
+--     changed a b     at how many places a and b differ [S4]
+--     worked k b      the changed beats of k steps from b, added up
+--     isDip t s c     c sets down at its second beat, and is not the form after t ones and s zeros
+--     dips t s k b    how many of k steps from b arrive at such a form
+use mathlib.Core.Bool.{Bool, cond, _&&_}
+use mathlib.Core.List.{List, [], _∷_}
+use Prim.Native.Nat.{ℕ, zero, suc, _+_}
+use lib.Dec.{eqb, ltb}
+use lib.ListN.{getD}
+use Rattle.circle.specs.Step.{next, top}
+
+unfoldable pub steps : ℕ → List ℕ → List ℕ
+steps zero b = b
+steps (suc k) b = next (steps k b)
+
+unfoldable pub changed : List ℕ → List ℕ → ℕ
+changed [] c = 0
+changed (x ∷ b) [] = 0
+changed (x ∷ b) (y ∷ c) = cond (eqb x y) 0 1 + changed b c
+
+unfoldable pub worked : ℕ → List ℕ → ℕ
+worked zero b = 0
+worked (suc k) b = worked k b + changed (steps k b) (steps (suc k) b)
+
+unfoldable pub isDip : ℕ → ℕ → List ℕ → Bool
+isDip t s c = eqb (getD c 1 0) 0 && ltb 0 (changed c (next (top t s)))
+
+unfoldable pub dips : ℕ → ℕ → ℕ → List ℕ → ℕ
+dips t s zero b = 0
+dips t s (suc k) b = dips t s k b + cond (isDip t s (steps (suc k) b)) 1 0
