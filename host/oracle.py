@@ -1,6 +1,8 @@
 """Document 01 once more, as plainly as it can be written, for the tests: slow, and sharing no code and no idea with crates/.
 
 count(t, s) and check(t, s, beats) answer refusal and place as the document's table does; successor(t, s, beats) is the step.
+form_of(t, s, n) and number_of(t, s, beats) are the form of a number and the number of a form, by the groups of source 000's list
+and not by walking.
 """
 from math import comb
 
@@ -105,3 +107,64 @@ def run(t, s, beats, k):
         worked += changed(beats, after)
         beats = after
     return (0, 0, worked, beats)
+
+
+def group_sizes(t, s):
+    """The groups of source 000's list S(t, s), (7a) and (7b): i, and how many forms end in a 1 and then s - i zeros."""
+    last = s - 1 if t == s else s
+    return [(i, forms(t - 1, i)) for i in range(1, last + 1)]
+
+
+def listed(t, s, place):
+    """The form at a place, from 0, of source 000's list S(t, s): its groups, and at last t ones then s zeros."""
+    for i, size in group_sizes(t, s):
+        if place < size:
+            return listed(t - 1, i, place) + [1] + [0] * (s - i)
+        place -= size
+    assert place == 0
+    return [1] * t + [0] * s
+
+
+def place_of(t, s, beats):
+    """The place, from 0, of a form in the list S(t, s)."""
+    if beats == [1] * t + [0] * s:
+        return forms(t, s) - 1
+    last = max(k for k in range(t + s) if beats[k] == 1)
+    before = beats[:last]
+    group = before.count(0)
+    return sum(size for i, size in group_sizes(t, s) if i < group) + place_of(t - 1, group, before)
+
+
+def form_of(t, s, n):
+    """The form of a number below N(t, s): the list turned by one, so that its last form has the number 0."""
+    return listed(t, s, (n - 1) % forms(t, s))
+
+
+def number_of(t, s, beats):
+    """The number of a schedule."""
+    return (place_of(t, s, beats) + 1) % forms(t, s)
+
+
+def number(t, s, beats):
+    """Refusal, place and number."""
+    refusal, place = check(t, s, beats)
+    return (refusal, place, 0 if refusal else number_of(t, s, beats))
+
+
+def numbered(t, s, n):
+    """The refusal of a number."""
+    refusal = count(t, s)[0]
+    return refusal if refusal else 7 if n >= forms(t, s) else 0
+
+
+# [E7b]
+def form(t, s, n, out):
+    """Refusal and the bytes left."""
+    refusal = numbered(t, s, n) or (3 if len(out) != t + s else 0)
+    return (refusal, out if refusal else form_of(t, s, n))
+
+
+def form_on_sheet(t, s, n, sheet, column):
+    """Refusal and the sheet left."""
+    refusal = numbered(t, s, n) or (12 if column + t + s > len(sheet) else 0)
+    return (refusal, sheet if refusal else sheet[:column] + form_of(t, s, n) + sheet[column + t + s :])

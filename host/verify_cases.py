@@ -69,14 +69,19 @@ def order(t, s):
     return " ".join(forms + forms[:1])
 
 
+def digest(forms):
+    """What the programs fold of all beats of some forms in their order."""
+    value = 0
+    for beat in itertools.chain(*forms):
+        value = (value * 31 + beat) % 4294967291
+    return value
+
+
 def round_of(t, s):
     forms = circle(int(t), int(s))
     worked = sum(oracle.changed(a, b) for a, b in zip(forms, forms[1:] + forms[:1]))
     assert int(t) < 2 or int(s) < 1 or worked == 2 * len(forms) + 2 * oracle.forms(int(t) - 1, int(s) - 1) - 2
-    digest = 0
-    for beat in itertools.chain(*forms):
-        digest = (digest * 31 + beat) % 4294967291
-    return f"{len(forms)} {worked} {digest} {text_of(forms[0])}"
+    return f"{len(forms)} {worked} {digest(forms)} {text_of(forms[0])}"
 
 
 def run(k, t, s, text):
@@ -92,6 +97,49 @@ def changed(t, s, text):
     return step(t, s, text).rsplit(" ", 1)[0]
 
 
+def both(t, s):
+    """Every form by its number: the circle as it is walked, which is also what the groups of the list give, both ways."""
+    t, s = int(t), int(s)
+    forms = circle(t, s)
+    assert forms == [oracle.form_of(t, s, n) for n in range(len(forms))]
+    assert [oracle.number_of(t, s, f) for f in forms] == list(range(len(forms)))
+    return f"{len(forms)} {digest(forms)}"
+
+
+def chosen(n):
+    """The numbers below n that the program asks for."""
+    if n < 2:
+        return [0] * 21
+    return [0, 1, n // 2, n - 1, n - 2] + [k * 11400714819323198485 % 2**64 % n for k in range(5, 21)]
+
+
+def ends(t, s):
+    """The last number, the refusal of the next one, and the digest of some forms, each of which has its number."""
+    t, s = int(t), int(s)
+    n = oracle.forms(t, s)
+    forms = [oracle.form_of(t, s, x) for x in chosen(n)]
+    assert all(oracle.is_schedule(t, s, f) for f in forms)
+    assert [oracle.number_of(t, s, f) for f in forms] == chosen(n)
+    return f"{n - 1} {oracle.numbered(t, s, n)} {digest(forms)}"
+
+
+def number(t, s, text):
+    refusal, place, value = oracle.number(int(t), int(s), beats_of(text))
+    return refused(refusal, place) if refusal else str(value)
+
+
+def with_left(refusal, beats):
+    return f"{refused(refusal, 0) if refusal else 'accepted'} {text_of(beats)}"
+
+
+def form(t, s, n, length):
+    return with_left(*oracle.form(int(t), int(s), int(n), [7] * int(length)))
+
+
+def sheet(t, s, n, column, length):
+    return with_left(*oracle.form_on_sheet(int(t), int(s), int(n), [7] * int(length), int(column)))
+
+
 KINDS = [
     ("order", re.compile(r"order (\d+) (\d+): (.*)"), order),
     ("round", re.compile(r"round (\d+) (\d+): (.*)"), round_of),
@@ -102,6 +150,11 @@ KINDS = [
     ("lists", re.compile(r"lists of (\d+): (.*)"), lists_of),
     ("count", re.compile(r"count (\d+) (\d+): (.*)"), count),
     ("check", re.compile(r"check (\d+) (\d+) (\S+): (.*)"), check),
+    ("both", re.compile(r"both (\d+) (\d+): (.*)"), both),
+    ("ends", re.compile(r"ends (\d+) (\d+): (.*)"), ends),
+    ("number", re.compile(r"number (\d+) (\d+) (\S+): (.*)"), number),
+    ("form", re.compile(r"form (\d+) (\d+) (\d+) (\d+): (.*)"), form),
+    ("sheet", re.compile(r"sheet (\d+) (\d+) (\d+) (\d+) (\d+): (.*)"), sheet),
 ]
 
 

@@ -1,4 +1,5 @@
 -- The first number below n at which a test holds.
+--     Found, found, found-unique     what the search from a number on finds, and that it is one number
 --     first-le         it is at most n
 --     first-holds      where it is below n, the test holds there
 --     first-before     the test holds at no number before it
@@ -8,19 +9,18 @@
 use mathlib.Core.Bool.{Bool, true, false, true≢false, cond}
 use mathlib.Core.Path.{_≡_, refl, _∙_, ap, sym}
 use Prim.Native.Nat.{ℕ, zero, suc, _+_, _≤_, _<_}
-use native.Mathlib.Nat.{zero-add}
 use native.Mathlib.Omega.{arith}
 use native.Mathlib.Decide.{decLt}
 use Rattle.bounded.specs.Bounded.{firstFrom, first}
 
--- what is to be known of the answer k of a search from i over n places
-record Found (f : ℕ → Bool) (i n k : ℕ) : Type 0 where
-  low : i ≤ k
-  high : k ≤ i + n
-  holds : k < i + n → f k ≡ true
-  before : (j : ℕ) → i ≤ j → j < k → f j ≡ false
+-- k is the first number from i on, of n numbers, at which the test holds, or past them all
+pub record Found (f : ℕ → Bool) (i n k : ℕ) : Type 0 where
+  pub low : i ≤ k
+  pub high : k ≤ i + n
+  pub holds : k < i + n → f k ≡ true
+  pub before : (j : ℕ) → i ≤ j → j < k → f j ≡ false
 
-found : (f : ℕ → Bool) (i n : ℕ) → Found f i n (firstFrom f i n)
+pub found : (f : ℕ → Bool) (i n : ℕ) → Found f i n (firstFrom f i n)
 unfolding firstFrom
 found f i zero = record { low = omega arith; high = omega arith; holds = λ h. absurd (omega arith); before = λ j h k. absurd (omega arith) }
 found f i (suc n) = look (f i) refl (found f (suc i) n)
@@ -35,6 +35,13 @@ found f i (suc n) = look (f i) refl (found f (suc i) n)
           before = λ j h k. elim (decLt i j) [ yes l ↦ later .before j l k | no l ↦ let here : j ≡ i = omega arith in ap f here ∙ e ];
         }
 
+pub found-unique : {f : ℕ → Bool} {i n k m : ℕ} → Found f i n k → Found f i n m → k ≡ m
+found-unique {f} {i} {n} {k} {m} p q =
+    elim (decLt k m) [
+      | yes h ↦ absurd (true≢false (sym (p .holds (omega (arith, q .high))) ∙ q .before k (p .low) h))
+      | no h ↦ elim (decLt m k) [ yes l ↦ absurd (true≢false (sym (q .holds (omega (arith, p .high))) ∙ p .before m (q .low) l)) | no l ↦ omega arith ]
+    ]
+
 module _ (f : ℕ → Bool) (n : ℕ) where
   pub first-le : first f n ≤ n
   first-le = omega (arith, found f 0 n .high)
@@ -46,10 +53,7 @@ module _ (f : ℕ → Bool) (n : ℕ) where
   first-before j h = found f 0 n .before j (omega arith) h
 
   pub first-is : (k : ℕ) → k < n → f k ≡ true → ((j : ℕ) → j < k → f j ≡ false) → first f n ≡ k
-  first-is k h e none = elim (decLt k (first f n)) [ yes l ↦ absurd (true≢false (sym e ∙ first-before k l)) | no l ↦ at-most l ]
-    where
-      at-most : (k < first f n → ⊥) → first f n ≡ k
-      at-most l = elim (decLt (first f n) k) [ yes m ↦ absurd (true≢false (sym (first-holds (omega arith)) ∙ none (first f n) m)) | no m ↦ omega arith ]
+  first-is k h e none = found-unique (found f 0 n) (record { low = omega arith; high = omega arith; holds = λ _. e; before = λ j _ l. none j l })
 
   pub first-none : ((j : ℕ) → j < n → f j ≡ false) → first f n ≡ n
-  first-none none = elim (decLt (first f n) n) [ yes l ↦ absurd (true≢false (sym (first-holds l) ∙ none (first f n) l)) | no l ↦ omega (arith, first-le) ]
+  first-none none = found-unique (found f 0 n) (record { low = omega arith; high = omega arith; holds = λ h. absurd (omega arith); before = λ j _ l. none j l })

@@ -14,22 +14,13 @@ fn print_forms(t: u64, s: u64, beats: &mut [u8]) {
     show::text(b"\n");
 }
 
-// The digest of more beats: 31 times what it was, plus the beat, modulo the prime 4,294,967,291.
-fn digest(before: u64, beats: &[u8]) -> u64 {
-    let mut sum = before % 4294967291;
-    for i in 0..beats.len() {
-        sum = (sum * 31 + show::wide(beats[i]) % 256) % 4294967291;
-    }
-    sum
-}
-
 // Prints how many steps a round takes, the changed beats that they answer, and the digest.
 fn print_round(t: u64, s: u64, beats: &mut [u8]) {
     let forms = counts::count(t, s).value();
     let mut changed: u64 = 0;
     let mut sum: u64 = 0;
     for _ in 0..forms {
-        sum = digest(sum, beats);
+        sum = show::digest(sum, beats);
         changed = std::num::wrapping_add_u64(changed, circle::next(t, s, beats).value());
     }
     show::text(b" ");

@@ -5,10 +5,10 @@
 --     next-advances      so the next form does
 -- Assumes nothing.
 use mathlib.Core.Bool.{true, false, false≢true}
-use mathlib.Core.List.{List, [], _∷_, reverse, reverseAux}
+use mathlib.Core.List.{List, [], _∷_, reverseAux}
 use mathlib.Core.Logic.{_⊎_, inl, inr}
 use mathlib.Core.Path.{_≡_, refl, _∙_, ap, sym, subst}
-use Prim.Native.Nat.{ℕ, zero, suc, pred, _+_, _-_, _≤_, _<_}
+use Prim.Native.Nat.{ℕ, zero, suc, pred, _+_, _-_, _≤_}
 use native.Mathlib.Omega.{arith}
 use Rattle.triangle.specs.Count.{N}
 use Rattle.triangle.proofs.Count.{N-add, N-zero, N-pos, N-over}
@@ -25,7 +25,7 @@ pub record Advances (b c : List ℕ) : Type 0 where
   pub same-zeros : zeros c ≡ zeros b
   pub ranks : (rankOf c ≡ suc (rankOf b)) ⊎ ((rankOf c ≡ 0) × (suc (rankOf b) ≡ N (ones b) (zeros b)))
 
-raise-some : (t s v : ℕ) → 1 ≤ v → raise t s v ≡ N t (pred s) + pred v
+pub raise-some : (t s v : ℕ) → 1 ≤ v → raise t s v ≡ N t (pred s) + pred v
 unfolding raise
 raise-some t s zero h = absurd (omega arith)
 raise-some t s (suc v) h = omega arith
@@ -54,7 +54,7 @@ follow (suc zero ∷ a) h r q e o z i n k =
 follow (suc (suc x) ∷ a) h r q e o z i n k = absurd (false≢true k)
 
 -- ones, then zeros, last beat first; and the same behind a 1 and a 0
-abbrev flat : ℕ → ℕ → List ℕ
+abbrev pub flat : ℕ → ℕ → List ℕ
 flat p q = downs q (ups p [])
 
 abbrev dipped : ℕ → ℕ → List ℕ
@@ -89,11 +89,11 @@ rank-ups zero = refl
 rank-ups (suc p) = rw (rank-ups p, shape-zeros p 0 []) (omega (arith, N-zero (suc (ones (ups p [])))))
 
 module _ (p q : ℕ) where
-  flat-ones : ones (flat p q) ≡ p
+  pub flat-ones : ones (flat p q) ≡ p
   unfolding ones
   flat-ones = omega (arith, ones-back p q [])
 
-  flat-zeros : zeros (flat p q) ≡ q
+  pub flat-zeros : zeros (flat p q) ≡ q
   unfolding zeros
   flat-zeros = omega (arith, zeros-back p q [])
 
@@ -108,7 +108,7 @@ module _ (p q : ℕ) where
   unfolding zeros
   dipped-zeros = omega (arith, zeros-back p q (0 ∷ 1 ∷ []))
 
-  flat-up : rank (1 ∷ flat p q) ≡ N (suc p) q - 1
+  pub flat-up : rank (1 ∷ flat p q) ≡ N (suc p) q - 1
   flat-up = rank-first (flat p q) p q flat-ones flat-zeros flat-rank
 
 dipped-ups : (p : ℕ) → rank (ups (suc p) (0 ∷ 1 ∷ [])) ≡ 1
@@ -119,7 +119,7 @@ dipped-ups (suc p) = rw (dipped-ups p, shape-zeros p 0 (0 ∷ 1 ∷ []))
 dipped-rank : (p q : ℕ) → rank (dipped (suc p) q) ≡ 1
 dipped-rank p q = rank-downs q (ups (suc p) (0 ∷ 1 ∷ [])) ∙ dipped-ups p
 
-two-forms : (p q : ℕ) → suc q ≤ p → 2 ≤ N (suc p) (suc q)
+pub two-forms : (p q : ℕ) → suc q ≤ p → 2 ≤ N (suc p) (suc q)
 two-forms p q h = omega (arith, N-add p q (omega arith), N-pos p (suc q) h, N-pos (suc p) q (omega arith))
 
 N-of : (b : List ℕ) (t s : ℕ) → ones b ≡ t → zeros b ≡ s → N (ones b) (zeros b) ≡ N t s

@@ -8,7 +8,7 @@ use native.Mathlib.Omega.{arith}
 use lib.ListN.{getD}
 use Rattle.bounded.specs.Bounded.{every, firstFrom}
 use Rattle.schedule.specs.Schedule.{ones, zeros, isSchedule}
-use Rattle.circle.specs.Step.{shift, found, has01, movesNext, next, top}
+use Rattle.circle.specs.Step.{shift, found, has01, movesNext, next}
 use Rattle.circle.specs.Walk.{steps, changed, worked, isDip}
 
 -- the third and the fourth prefix shift of 11010: the symbol goes to position 2

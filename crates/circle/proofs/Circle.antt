@@ -7,19 +7,18 @@
 --     reaches, once                 some number of steps from 1 to N leads from one schedule to another, and only one does
 --     top-schedule, top-rank        t ones then s zeros is a schedule, of rank 0
 -- Assumes nothing.
-use mathlib.Core.List.{List, [], _∷_, reverse, reverse-reverse}
-use mathlib.Core.Logic.{_⊎_, inl, inr, ⊎-elim}
-use mathlib.Core.Path.{_≡_, refl, _∙_, ap, sym, subst}
+use mathlib.Core.List.{List, [], reverse, reverse-reverse}
+use mathlib.Core.Logic.{_⊎_, inl, inr}
+use mathlib.Core.Path.{_≡_, _∙_, ap, sym}
 use Prim.Native.Nat.{ℕ, zero, suc, _+_, _-_, _≤_, _<_}
 use native.Mathlib.Omega.{arith}
 use native.Mathlib.Decide.{decLt}
 use Rattle.triangle.specs.Count.{N}
-use Rattle.triangle.proofs.Count.{N-pos}
 use Rattle.schedule.specs.Schedule.{ones, zeros, Schedule}
 use Rattle.schedule.proofs.Hand.{plays, Turned, start, turned, ones-turn, zeros-turn, schedule-plays, schedule-zeros, plays-schedule}
 use Rattle.circle.specs.Step.{next, top}
 use Rattle.circle.specs.Walk.{steps}
-use Rattle.circle.proofs.Shape.{ups, downs, shape-plays, shape-ones, shape-zeros, top-shape}
+use Rattle.circle.proofs.Shape.{shape-plays, shape-ones, shape-zeros, top-shape}
 use Rattle.circle.proofs.Rank.{rankOf, rank-below, rank-same}
 use Rattle.circle.proofs.Advance.{next-advances, rank-flat, flat-rank}
 

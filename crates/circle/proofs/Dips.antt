@@ -4,15 +4,13 @@
 --     worked-dips        so k steps change 2k beats, and two more for each dip
 --     idle-changed       with one form only a step changes none
 -- Assumes nothing.
-use mathlib.Core.Bool.{Bool, true, false, true≢false, cond, _&&_, and-eq-true-iff}
+use mathlib.Core.Bool.{true, false, true≢false, cond}
 use mathlib.Core.List.{List, [], _∷_}
 use mathlib.Core.Logic.{_⊎_, inl, inr, ⊎-elim}
 use mathlib.Core.Path.{_≡_, refl, _∙_, ap, ap₂, sym}
 use Prim.Native.Nat.{ℕ, zero, suc, _+_, _*_, _≤_, _<_}
 use native.Mathlib.Omega.{arith}
-use native.Mathlib.Decide.{decLt}
 use borrow.Author.Tests.{lt-ltb, le-ltb, eq-eqb, ne-eqb}
-use lib.Dec.{eqb, ltb}
 use lib.ListN.{length, getD}
 use Rattle.triangle.specs.Count.{N}
 use Rattle.schedule.specs.Schedule.{ones, zeros, Schedule}

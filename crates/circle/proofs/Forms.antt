@@ -7,7 +7,7 @@
 -- Assumes nothing.
 use mathlib.Core.List.{List, [], _∷_}
 use mathlib.Core.Path.{_≡_, refl, _∙_, ap, sym, subst}
-use Prim.Native.Nat.{ℕ, suc, _+_, _*_, _≤_, _<_}
+use Prim.Native.Nat.{ℕ, _+_, _*_, _≤_, _<_}
 use native.Mathlib.Numerals.{add-one}
 use native.Mathlib.Omega.{arith}
 use borrow.Author.Tests.{lt-ltb, le-ltb}
@@ -20,9 +20,9 @@ use Rattle.refusal.specs.declared.Verdict.{Verdict}
 use Rattle.refusal.specs.Answer.{answer}
 use Rattle.refusal.specs.Order.{_⇒_, judge}
 use Rattle.refusal.proofs.Order.{judge-refused, judge-accepted}
-use Rattle.schedule.specs.Schedule.{ones, zeros, Schedule}
+use Rattle.schedule.specs.Schedule.{Schedule}
 use Rattle.schedule.specs.Check.{checkRows, checked}
-use Rattle.schedule.proofs.Hand.{plays, schedule-plays, plays-schedule}
+use Rattle.schedule.proofs.Hand.{schedule-plays, plays-schedule}
 use Rattle.schedule.proofs.Theorems.{accepted-schedule}
 use Rattle.circle.specs.Step.{next}
 use Rattle.circle.specs.Walk.{steps, changed, worked}
@@ -51,7 +51,7 @@ module _ (t s : ℕ) (b : List ℕ) (k : ℕ) where
   pub run-taken : checked t s b ≡ Verdict.Accepted → k ≤ longest → judge (runRows t s b k) ≡ Verdict.Accepted
   run-taken e h = judge-accepted (checkRows t s b) ((ltb longest k ⇒ RunTooLong) ∷ []) e ∙ simp (le-ltb longest k h)
 
-own-counts : {t s : ℕ} {b : List ℕ} → Schedule t s b → Form b
+pub own-counts : {t s : ℕ} {b : List ℕ} → Schedule t s b → Form b
 own-counts p = plays-schedule (schedule-plays p) refl refl
 
 pub accepted-form : (t s : ℕ) (b : List ℕ) → checked t s b ≡ Verdict.Accepted → Form b

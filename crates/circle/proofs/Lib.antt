@@ -6,7 +6,6 @@ pub mod Circle
 pub mod Work
 pub mod Dips
 pub mod Round
-pub mod Skipping
 pub mod Stores
 pub mod Forms
 pub mod Theorems

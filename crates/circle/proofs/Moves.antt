@@ -3,24 +3,24 @@
 --     has01-none, has01-some     ones and zeros alone have no 01, and with a 1 behind them they have
 --     next-moves      the next form of a schedule is what the rule makes of it
 -- Assumes nothing.
-use mathlib.Core.Bool.{Bool, true, false, false≢true, cond, _&&_, and-eq-true-iff}
+use mathlib.Core.Bool.{Bool, true, false, false≢true, cond, and-eq-true-iff}
 use mathlib.Core.List.{List, [], _∷_, _++_, append-assoc, append-nil}
 use mathlib.Core.Path.{_≡_, refl, _∙_, ap, sym}
-use Prim.Native.Nat.{ℕ, zero, suc, pred, _+_, _-_, _≤_, _<_}
+use Prim.Native.Nat.{ℕ, zero, suc, _+_, _-_, _≤_, _<_}
 use native.Mathlib.Omega.{arith}
 use native.Mathlib.Decide.{decLt}
 use borrow.Author.Tests.{lt-ltb, le-leb, lt-leb, eq-eqb, eqb-true}
-use lib.Dec.{eqb, leb, ltb}
-use lib.ListN.{length, getD, take, drop, length-append}
+use lib.Dec.{eqb}
+use lib.ListN.{length, getD, drop, length-append}
 use lib.Seq.{getD-append-seam, take-append-seam}
 use Rattle.bounded.specs.Bounded.{first}
 use Rattle.bounded.proofs.First.{first-is, first-none}
-use Rattle.schedule.specs.Schedule.{ones, zeros, Schedule, isSchedule}
+use Rattle.schedule.specs.Schedule.{ones, zeros, isSchedule}
 use Rattle.schedule.proofs.Hand.{plays, plays-schedule, schedule-plays}
 use Rattle.schedule.proofs.Tally.{ones-append, zeros-append}
 use Rattle.schedule.proofs.Theorems.{isSchedule-true, true-isSchedule}
 use Rattle.circle.specs.Step.{shift, is01, found, has01, movesNext, next}
-use Rattle.circle.proofs.Shape.{ups, downs, View, none, some, view, plays-shape, shape-plays, shape-short, shape-ones, shape-zeros, shape-length, shape-join, downs-snoc, get-ups, get-downs, get-up, get-down}
+use Rattle.circle.proofs.Shape.{ups, downs, View, none, some, view, plays-shape, shape-plays, shape-short, shape-zeros, shape-length, shape-join, downs-snoc, get-ups, get-downs, get-up, get-down}
 
 pub data Moved : List ℕ → List ℕ → Type 0 where
   -- no 01: nothing to move, or the last beat moves to the second place

@@ -5,16 +5,16 @@
 --     round-dips        a round has N(t−1, s−1) − 1 dips
 --     round-worked      a round changes 2·N(t, s) + 2·N(t−1, s−1) − 2 beats
 -- Assumes nothing.
-use mathlib.Core.Bool.{Bool, true, false, true≢false, false≢true, cond, _&&_, and-eq-true-iff}
+use mathlib.Core.Bool.{Bool, true, false, true≢false, false≢true, and-eq-true-iff}
 use mathlib.Core.List.{List, [], _∷_, map, List·Memᴰ, List·Memᴰ·head, List·Memᴰ·tail, List·Memᴰ·cases-cons, List·Memᴰ·not-nil, Memᴰ·cast}
 use mathlib.Core.Logic.{⊎-elim}
 use mathlib.Core.Path.{_≡_, refl, _∙_, ap, sym}
-use Prim.Native.Nat.{ℕ, zero, suc, _+_, _-_, _*_, _≤_, _<_}
+use Prim.Native.Nat.{ℕ, zero, suc, _+_, _-_, _*_, _≤_}
 use native.Mathlib.Omega.{arith}
 use native.Mathlib.Decide.{decLe}
 use borrow.Author.Tests.{eqb-true, eq-eqb, ltb-false}
 use lib.Dec.{eqb, ltb}
-use lib.ListN.{length, getD, length-map}
+use lib.ListN.{getD, length-map}
 use Rattle.triangle.specs.Count.{N}
 use Rattle.schedule.specs.Schedule.{ones, zeros, Schedule, Lists}
 use Rattle.schedule.proofs.Hand.{plays, plays-schedule, schedule-plays, schedule-zeros, schedule-le}
@@ -23,7 +23,7 @@ use Rattle.schedule.proofs.Distinct.{Distinct, nothing, more, distinct-lists, k
 use Rattle.schedule.proofs.Listing.{map-lists, schedules, schedules-length, schedules-lists}
 use Rattle.circle.specs.Step.{next, top}
 use Rattle.circle.specs.Walk.{steps, changed, worked, isDip, dips}
-use Rattle.circle.proofs.Shape.{ups, downs, top-shape}
+use Rattle.circle.proofs.Shape.{top-shape}
 use Rattle.circle.proofs.Moves.{next-turns}
 use Rattle.circle.proofs.Circle.{next-schedule, steps-schedule, reaches, once, top-schedule}
 use Rattle.circle.proofs.Work.{changed-same}

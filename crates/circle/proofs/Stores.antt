@@ -1,6 +1,5 @@
 -- The step by stores: y is the leftmost 0, x the 1 of the leftmost 0 followed by 1.
---     skips-unique              a scan has one answer
---     Found, find               what the two scans of the step find, by the shape
+--     Found, find, found-order  what the two scans of the step find, by the shape
 --     plan-stays, plan-alone, plan-turns, plan-swaps, plan-dips     each plan of the code is the rule's next form
 -- Assumes nothing.
 use mathlib.Core.Bool.{Bool, true, false, false≢true, cond}
@@ -9,24 +8,17 @@ use mathlib.Core.Logic.{_≢_}
 use mathlib.Core.Path.{_≡_, refl, _∙_, ap, ap₂, sym, subst}
 use Prim.Native.Nat.{ℕ, zero, suc, pred, _+_, _-_, _≤_, _<_}
 use native.Mathlib.Omega.{arith}
-use native.Mathlib.Decide.{decLt}
 use lib.ListN.{length, getD, set}
-use Rattle.schedule.specs.Schedule.{ones, zeros}
+use Rattle.schedule.specs.Skip.{skipped}
 use Rattle.schedule.proofs.Hand.{plays, schedule-plays}
+use Rattle.schedule.proofs.Skipping.{Skips, skipped-skips, skips-unique}
 use Rattle.circle.specs.declared.Move.{Move}
 use Rattle.circle.specs.Step.{next}
 use Rattle.circle.specs.Walk.{changed}
-use Rattle.circle.specs.Plan.{Form, Skips, Inside, Plans, applied, changes}
+use Rattle.circle.specs.Plan.{Form, Inside, Plans, applied, changes}
 use Rattle.circle.proofs.Shape.{ups, downs, View, none, some, view, plays-shape, shape-plays, shape-short, shape-length, ups-snoc, downs-snoc, get-ups, get-downs, get-up, get-down}
 use Rattle.circle.proofs.Moves.{next-stays, next-turns, next-closes, next-behind}
 use Rattle.circle.proofs.Work.{changed-self, turn-two, swap-two, dip-four}
-
-skips-unique : {b : List ℕ} {from v r m : ℕ} → Skips b from v r → Skips b from v m → r ≡ m
-skips-unique {b} {from} {v} {r} {m} p q =
-    elim (decLt r m) [
-      | yes h ↦ absurd (p .stop (omega (arith, q .high)) (q .run r (p .low) h))
-      | no h ↦ elim (decLt m r) [ yes k ↦ absurd (q .stop (omega (arith, p .high)) (p .run m (q .low) k)) | no k ↦ omega arith ]
-    ]
 
 -- what the scans find in each shape
 skips-ups : (p : ℕ) (c : List ℕ) → (0 < length c → getD c 0 0 ≢ 1) → Skips (ups p c) 0 1 p
@@ -65,8 +57,15 @@ find-view y x (some (suc p) q z) o sy sx =
     let ey = skips-unique sy (skips-ups (suc p) (downs (suc q) (1 ∷ z)) (λ h e. omega arith)) in
     rising p q z refl ey (skips-unique (subst (λ (k : ℕ). Skips (ups (suc p) (downs (suc q) (1 ∷ z))) k 0 x) ey sx) (skips-downs (suc p) (suc q) (1 ∷ z) (λ h e. omega arith)))
 
-pub find : {b : List ℕ} {y x : ℕ} → Form b → Skips b 0 1 y → Skips b y 0 x → Found b y x
-find {b} {y} {x} f sy sx = find-view y x (view 0 b (schedule-plays f)) (schedule-plays f) sy sx
+pub find : {b : List ℕ} {y x : ℕ} → Form b → y ≡ skipped b 0 1 → x ≡ skipped b y 0 → Found b y x
+find {b} {y} {x} f ey ex =
+    let inside : 0 ≤ length b = omega arith in
+    let sy = skipped-skips inside ey in
+    find-view y x (view 0 b (schedule-plays f)) (schedule-plays f) sy (skipped-skips (sy .high) ex)
+
+pub found-order : {b : List ℕ} {y x : ℕ} → Found b y x → (y ≤ x) × (x ≤ length b)
+found-order (flat p q e ey ex) = (omega arith, omega (arith, ap length e, shape-length p q []))
+found-order (rising p q z e ey ex) = (omega arith, omega (arith, ap length e, shape-length (suc p) (suc q) (1 ∷ z)))
 
 -- stores, by the shape
 set-ups : (p i k : ℕ) (c : List ℕ) (v : ℕ) → k ≡ p + i → set (ups p c) k v ≡ ups p (set c i v)

@@ -1,16 +1,14 @@
 -- What a step stores, for the contracts of the private functions that find and make it. proofs/Stores.antt shows that a plan is the
 -- rule's next form, so nothing here has to be believed. Definitions only.
 --     Form b            b is a schedule of its own counts
---     Skips             the first place from `from` on whose beat is not v, or the length where there is none
 --     applied           the schedule after the stores of a move: a swap puts a 1 at y and a 0 at x; a dip also moves a 0 from behind x to the second place
 --     changes           how many beats a move changes
 --     Inside            the places of a move are inside a list of n beats
 --     Plans b m         m makes the next form of b
 use mathlib.Core.List.{List}
-use mathlib.Core.Logic.{_≢_}
 use mathlib.Core.Path.{_≡_}
 use Prim.Native.Nat.{ℕ, _+_, _≤_, _<_}
-use lib.ListN.{length, getD, set}
+use lib.ListN.{length, set}
 use Rattle.schedule.specs.Schedule.{ones, zeros, Schedule}
 use Rattle.circle.specs.declared.Move.{Move}
 use Rattle.circle.specs.Step.{next}
@@ -18,12 +16,6 @@ use Rattle.circle.specs.Walk.{changed}
 
 abbrev pub Form : List ℕ → Type 0
 Form b = Schedule (ones b) (zeros b) b
-
-pub record Skips (b : List ℕ) (from v r : ℕ) : Type 0 where
-  pub low : from ≤ r
-  pub high : r ≤ length b
-  pub run : (k : ℕ) → from ≤ k → k < r → getD b k 0 ≡ v
-  pub stop : r < length b → getD b r 0 ≢ v
 
 abbrev pub applied : Move → List ℕ → List ℕ
 applied Move.Stays b = b

@@ -8,7 +8,7 @@
 --                     if there is a 0, and else b stays [D2a] [S2] [S3]
 --     top t s         t ones and then s zeros
 use mathlib.Core.Bool.{Bool, cond, _&&_}
-use mathlib.Core.List.{List, [], _∷_, _++_}
+use mathlib.Core.List.{List, _∷_, _++_}
 use Prim.Native.Nat.{ℕ, suc, pred, _+_}
 use lib.Dec.{eqb, leb, ltb}
 use lib.ListN.{length, getD, take, drop, replicate}

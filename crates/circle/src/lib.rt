@@ -5,7 +5,7 @@ ghost use mathlib.Core.Path.{_≡_};
 ghost use Prim.Native.Nat.{_≤_};
 ghost use lib.ListN.{length};
 ghost use Rattle.circle.specs.Walk.{steps, worked};
-ghost use Rattle.circle.specs.Plan.{Form, Skips, Inside, Plans, applied};
+ghost use Rattle.circle.specs.Plan.{Form, Inside, Plans, applied};
 ghost use Rattle.circle.specs.Plan.{changes as Plan·changes};
 ghost use Rattle.circle.specs.Answers.{longest, nextAnswer, nextLeft, runAnswer, runLeft};
 ghost use Rattle.circle.specs.Step.{next as Step·next};
@@ -25,31 +25,14 @@ enum Move {
     Dips(usize, usize),
 }
 
-// The first place from `from` on whose beat is another, or the number of beats.
-fn skip(beats: &[u8], from: usize, beat: u8) -> usize
-    requires { ⌜ from ≤ length (now beats) ⌝ }
-    ensures { λ r. ⌜ Skips (now (beats .entry)) from beat r ⌝ }
-{
-    let mut at = from;
-    loop {
-        if at == beats.len() {
-            break at;
-        }
-        if beats[at] != beat {
-            break at;
-        }
-        at += 1;
-    }
-}
-
 // What the rule does: y is the leftmost 0, x the 1 of the leftmost 0 followed by 1.
 fn plan(beats: &[u8]) -> Move
     requires { ⌜ Form (now beats) ⌝ }
     ensures { λ r. ⌜ Plans (now (beats .entry)) r ⌝ }
 {
     let n = beats.len();
-    let y = skip(beats, 0, 1);
-    let x = skip(beats, y, 0);
+    let y = schedule::skip(beats, 0, 1);
+    let x = schedule::skip(beats, y, 0);
     if x == n {
         if y == n {
             return Move::Stays;

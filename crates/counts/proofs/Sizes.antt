@@ -3,10 +3,8 @@
 --     counts-allowed                          an accepted pair has t up to the largest count and s up to t
 --     counted-N                               the table's answer for such a pair is N(t, s)
 -- Assumes nothing.
-use mathlib.Core.Bool.{Bool, true, false}
-use mathlib.Core.Path.{_≡_, refl, _∙_, ap, sym}
+use mathlib.Core.Path.{_≡_, refl}
 use Prim.Native.Nat.{ℕ, _≤_, _<_}
-use native.Mathlib.Omega.{arith}
 use borrow.Author.Tests.{lt-ltb, le-ltb, le-leb, ltb-false}
 use lib.Dec.{ltb}
 use Rattle.refusal.specs.declared.Verdict.{Verdict}

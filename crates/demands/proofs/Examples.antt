@@ -3,7 +3,7 @@
 -- Assumes nothing.
 use mathlib.Core.List.{List, [], _∷_, List·Memᴰ, List·Memᴰ·cases-cons, List·Memᴰ·not-nil}
 use mathlib.Core.Logic.{⊎-elim}
-use mathlib.Core.Path.{_≡_, refl, sym, subst}
+use mathlib.Core.Path.{refl, sym, subst}
 use Rattle.bounded.specs.Bounded.{every, firstFrom}
 use Rattle.triangle.specs.Count.{N}
 use Rattle.schedule.specs.Schedule.{ones, zeros, isSchedule}
@@ -19,24 +19,35 @@ member : (l : List Example) → All l → (e : Example) → List·Memᴰ e l →
 member [] h e m = absurd (List·Memᴰ·not-nil m)
 member (first ∷ l) h e m = ⊎-elim (λ same. subst Holds (sym same) (h .0)) (λ later. member l (h .1) e later) (List·Memᴰ·cases-cons m)
 
+infixr 5 _and_
+_and_ : {A B : Type 0} → A → B → A × B
+_and_ a b = (a, b)
+
+-- one line for each example, in the order of the list
 computed : All examples
 unfolding N every firstFrom ones zeros isSchedule shift found has01 movesNext next steps changed worked
-computed = (
-  (refl, (refl, (refl, (refl, (refl, (refl, tt)))))),
-  (
-    (refl, (refl, (refl, (refl, (refl, tt))))),
-    (
-      refl,
-      (
-        (refl, (refl, (refl, (refl, (refl, tt))))),
-        (
-          (refl, (refl, (refl, tt))),
-          (refl, ((refl, (refl, tt)), ((refl, tt), ((refl, (refl, tt)), ((refl, tt), ((refl, (refl, tt)), ((refl, tt), (refl, (refl, tt))))))))),
-        ),
-      ),
-    ),
-  ),
-)
+computed =
+    (refl and refl and refl and refl and refl and refl and tt) and
+    (refl and refl and refl and refl and refl and tt) and
+    refl and
+    (refl and refl and refl and refl and refl and tt) and
+    (refl and refl and refl and tt) and
+    refl and
+    (refl and refl and tt) and
+    (refl and tt) and
+    (refl and refl and tt) and
+    (refl and tt) and
+    (refl and refl and tt) and
+    (refl and tt) and
+    ((refl, refl) and (refl, refl) and (refl, refl) and (refl, refl) and (refl, refl) and tt) and
+    ((refl, refl) and (refl, refl) and (refl, refl) and (refl, refl) and (refl, refl) and tt) and
+    ((refl, refl) and (refl, refl) and tt) and
+    ((refl, refl) and tt) and
+    ((refl, refl) and tt) and
+    ((refl, refl) and tt) and
+    refl and
+    refl and
+    tt
 
 pub every-example : (e : Example) → List·Memᴰ e examples → Holds e
 every-example = member examples computed

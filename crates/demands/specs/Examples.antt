@@ -4,20 +4,23 @@
 --                  `follows t s l`: from t ones then s zeros on, the forms stand in the order of l
 --                  `changes t s l`: the steps from there on change as many beats as l says
 --                  `rounds t s n`: a whole round changes n beats
+--                  `numbers t s l`: the forms of l have the numbers from 0 on, and are the forms of those numbers
 --     Holds        what an example says, of the definitions
---     examples     the list [P7] [E1] [E3]
+--     examples     the list [P7] [E1] [E3] [E7a]
 use mathlib.Core.List.{List, [], _∷_}
 use mathlib.Core.Path.{_≡_}
-use Prim.Native.Nat.{ℕ}
+use Prim.Native.Nat.{ℕ, suc}
 use Rattle.triangle.specs.Count.{N}
 use Rattle.circle.specs.Step.{next, top}
 use Rattle.circle.specs.Walk.{changed, worked}
+use Rattle.number.specs.Number.{numberOf, formOf}
 
 pub data Example : Type 0 where
   counts : (t s n : ℕ) → Example
   follows : (t s : ℕ) → List (List ℕ) → Example
   changes : (t s : ℕ) → List ℕ → Example
   rounds : (t s n : ℕ) → Example
+  numbers : (t s : ℕ) → List (List ℕ) → Example
 
 -- b, and each form after it, in the order of a list
 abbrev pub InOrder : List ℕ → List (List ℕ) → Type 0
@@ -29,11 +32,17 @@ abbrev pub Changing : List ℕ → List ℕ → Type 0
 Changing b [] = Unit {0}
 Changing b (n ∷ l) = (changed b (next b) ≡ n) × Changing (next b) l
 
+-- the forms of a list have the numbers from n on, and are the forms of those numbers
+abbrev pub Numbering : ℕ → ℕ → ℕ → List (List ℕ) → Type 0
+Numbering t s n [] = Unit {0}
+Numbering t s n (b ∷ l) = ((numberOf t s b ≡ n) × (formOf t s n ≡ b)) × Numbering t s (suc n) l
+
 abbrev pub Holds : Example → Type 0
 Holds (counts t s n) = N t s ≡ n
 Holds (follows t s l) = InOrder (top t s) l
 Holds (changes t s l) = Changing (top t s) l
 Holds (rounds t s n) = worked (N t s) (top t s) ≡ n
+Holds (numbers t s l) = Numbering t s 0 l
 
 abbrev pub examples : List Example
 examples =
@@ -62,5 +71,23 @@ examples =
     changes 4 0 (0 ∷ []) ∷
     follows 0 0 ([] ∷ [] ∷ []) ∷
     changes 0 0 (0 ∷ []) ∷
+    numbers 3 2 (
+    (1 ∷ 1 ∷ 1 ∷ 0 ∷ 0 ∷ []) ∷
+    (1 ∷ 0 ∷ 1 ∷ 1 ∷ 0 ∷ []) ∷
+    (1 ∷ 1 ∷ 0 ∷ 1 ∷ 0 ∷ []) ∷
+    (1 ∷ 0 ∷ 1 ∷ 0 ∷ 1 ∷ []) ∷
+    (1 ∷ 1 ∷ 0 ∷ 0 ∷ 1 ∷ []) ∷ []
+    ) ∷
+    numbers 3 3 (
+    (1 ∷ 1 ∷ 1 ∷ 0 ∷ 0 ∷ 0 ∷ []) ∷
+    (1 ∷ 0 ∷ 1 ∷ 1 ∷ 0 ∷ 0 ∷ []) ∷
+    (1 ∷ 1 ∷ 0 ∷ 1 ∷ 0 ∷ 0 ∷ []) ∷
+    (1 ∷ 0 ∷ 1 ∷ 0 ∷ 1 ∷ 0 ∷ []) ∷
+    (1 ∷ 1 ∷ 0 ∷ 0 ∷ 1 ∷ 0 ∷ []) ∷ []
+    ) ∷
+    numbers 2 1 ((1 ∷ 1 ∷ 0 ∷ []) ∷ (1 ∷ 0 ∷ 1 ∷ []) ∷ []) ∷
+    numbers 1 1 ((1 ∷ 0 ∷ []) ∷ []) ∷
+    numbers 4 0 ((1 ∷ 1 ∷ 1 ∷ 1 ∷ []) ∷ []) ∷
+    numbers 0 0 ([] ∷ []) ∷
     counts 5 3 28 ∷
     counts 8 5 572 ∷ []

@@ -1,10 +1,11 @@
 -- The verdict of an order that goes on.
 --     judge-refused      what the first rows refuse stays refused with more rows behind them
 --     judge-accepted     where the first rows accept, the rows behind them decide
+--     judge-front, judge-back     what an order accepts, its first rows accept, and the rows behind them
 -- Assumes nothing.
-use mathlib.Core.Bool.{Bool, true, false}
+use mathlib.Core.Bool.{true, false}
 use mathlib.Core.List.{List, [], _∷_, _++_}
-use mathlib.Core.Path.{_≡_, refl}
+use mathlib.Core.Path.{_≡_, refl, _∙_, sym}
 use Prim.Native.Nat.{ℕ}
 use native.Mathlib.Omega.{arith}
 use Rattle.refusal.specs.declared.Refusal.{Refusal}
@@ -20,3 +21,11 @@ pub judge-accepted : (l m : List Row) → judge l ≡ Verdict.Accepted → judge
 judge-accepted [] m e = refl
 judge-accepted ((true ⇒ first) ∷ l) m e = let z : _≡_ {A = ℕ} 0 1 = cc in absurd (omega arith)
 judge-accepted ((false ⇒ first) ∷ l) m e = judge-accepted l m e
+
+pub judge-front : (l m : List Row) → judge (l ++ m) ≡ Verdict.Accepted → judge l ≡ Verdict.Accepted
+judge-front [] m e = refl
+judge-front ((true ⇒ first) ∷ l) m e = e
+judge-front ((false ⇒ first) ∷ l) m e = judge-front l m e
+
+pub judge-back : (l m : List Row) → judge (l ++ m) ≡ Verdict.Accepted → judge m ≡ Verdict.Accepted
+judge-back l m e = sym (judge-accepted l m (judge-front l m e)) ∙ e

@@ -1,10 +1,8 @@
 -- The definitions of specs/ on small inputs: one that fits, and one refused for each part, so that no part is empty words [A2] [A7] [E2].
 -- Assumes nothing.
-use mathlib.Core.List.{List, [], _∷_}
+use mathlib.Core.List.{[], _∷_}
 use mathlib.Core.Path.{_≡_, refl}
-use Prim.Native.Nat.{ℕ}
 use native.Mathlib.Omega.{arith}
-use lib.ListN.{length, getD, take}
 use Rattle.bounded.specs.Bounded.{firstFrom}
 use Rattle.refusal.specs.declared.Refusal.the-variants.{TooManyTasks, MoreDownThanUp, WrongLength, BadBeat, EmptyHand, WrongTakeUps}
 use Rattle.refusal.specs.declared.Verdict.{Verdict}

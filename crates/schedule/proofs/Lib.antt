@@ -1,5 +1,6 @@
 pub mod Tally
 pub mod Scan
+pub mod Skipping
 pub mod Rows
 pub mod Reflect
 pub mod Verdicts

@@ -4,10 +4,9 @@
 --     schedules t s    the list
 --     schedules-lists, schedules-length     it has every schedule exactly once, and is N(t, s) long
 -- Assumes nothing.
-use mathlib.Core.Bool.{Bool, cond}
-use mathlib.Core.List.{List, [], _∷_, _++_, map, reverse, reverseAux, reverse-reverse}
-use mathlib.Core.Logic.{_⊎_, inl, inr, ⊎-elim}
-use mathlib.Core.Path.{_≡_, refl, _∙_, ap, sym, subst}
+use mathlib.Core.Bool.{cond}
+use mathlib.Core.List.{List, [], _∷_, _++_, map, reverse, reverse-reverse}
+use mathlib.Core.Path.{_≡_, refl, _∙_, ap, sym}
 use Prim.Native.Nat.{ℕ, zero, suc, _+_, _-_, _≤_, _<_}
 use native.Mathlib.Omega.{arith}
 use native.Mathlib.Decide.{decLt, decLe}
@@ -16,11 +15,10 @@ use lib.Dec.{leb}
 use lib.ListN.{length, getD, length-append, length-map, List·getD-append}
 use lib.Seq.{getD-append-add}
 use Rattle.triangle.specs.Count.{N}
-use Rattle.triangle.proofs.Count.{N-zero, N-over, N-add}
 use Rattle.schedule.specs.Schedule.{ones, zeros, Schedule, Lists}
-use Rattle.schedule.proofs.Hand.{plays, schedule-plays, schedule-zeros, plays-schedule, Turned, start, down, up, level, turned, unturned, ones-turn, zeros-turn}
+use Rattle.schedule.proofs.Hand.{schedule-plays, schedule-zeros, plays-schedule, Turned, start, down, up, level, turned, unturned, ones-turn, zeros-turn}
 
-map-at : (f : List ℕ → List ℕ) (l : List (List ℕ)) (i : ℕ) → i < length l → getD (map f l) i [] ≡ f (getD l i [])
+pub map-at : (f : List ℕ → List ℕ) (l : List (List ℕ)) (i : ℕ) → i < length l → getD (map f l) i [] ≡ f (getD l i [])
 map-at f [] i h = absurd (omega arith)
 map-at f (x ∷ l) zero h = refl
 map-at f (x ∷ l) (suc i) h = map-at f l i (omega arith)

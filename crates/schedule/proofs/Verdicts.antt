@@ -2,8 +2,8 @@
 --     checked-right     the verdict is right
 --     right-checked     a right verdict is the one given
 -- Assumes nothing.
-use mathlib.Core.List.{List, [], _∷_}
-use mathlib.Core.Path.{_≡_, refl, _∙_, ap, sym, subst}
+use mathlib.Core.List.{List}
+use mathlib.Core.Path.{_≡_, _∙_, ap, sym, subst}
 use Prim.Native.Nat.{ℕ, _+_, _≤_, _<_}
 use native.Mathlib.Omega.{arith}
 use native.Mathlib.Decide.{decLt, decLe, ℕ-discrete}
@@ -16,7 +16,7 @@ use Rattle.refusal.proofs.Order.{judge-refused, judge-accepted}
 use Rattle.triangle.specs.Count.{largest}
 use Rattle.counts.specs.Counts.{Allowed, countRows}
 use Rattle.counts.proofs.Sizes.{too-many, more-down, allowed-counts}
-use Rattle.schedule.specs.Schedule.{ones, Schedule}
+use Rattle.schedule.specs.Schedule.{ones}
 use Rattle.schedule.specs.Check.{badBeat, emptyHand, beatRows, checked}
 use Rattle.schedule.specs.Meaning.{Refuses, for-tasks, for-downs, for-length, for-beat, for-hand, for-ups, Right}
 use Rattle.schedule.proofs.Rows.{wrong-length, bad-beat, empty-hand, wrong-take-ups, accepted}

@@ -1,3 +1,4 @@
 pub mod Schedule
 pub mod Check
+pub mod Skip
 pub mod Meaning

@@ -7,6 +7,7 @@ ghost use Rattle.refusal.specs.declared.Verdict.{Verdict};
 ghost use Rattle.refusal.specs.Order.{judge};
 ghost use Rattle.counts.specs.Counts.{countRows};
 ghost use Rattle.schedule.specs.Schedule.{ones, zeros};
+ghost use Rattle.schedule.specs.Skip.{skipped};
 ghost use Rattle.schedule.specs.Check.{badBeat, emptyHand, beatRows, checked};
 use refusal::Refusal;
 use refusal::Verdict;
@@ -25,6 +26,23 @@ fn bad_beat(beats: &[u8]) -> usize
             break at;
         }
         left -= 1;
+    }
+}
+
+// The first place from `from` on whose beat is another, or the number of beats where there is none; `from`
+// itself where it is past the end.
+pub fn skip(beats: &[u8], from: usize, beat: u8) -> usize
+    ensures { λ r. ⌜ r ≡ skipped (now (beats .entry)) from beat ⌝ }
+{
+    let mut at = from;
+    loop {
+        if beats.len() <= at {
+            break at;
+        }
+        if beats[at] != beat {
+            break at;
+        }
+        at += 1;
     }
 }
 

@@ -71,3 +71,12 @@ pub fn raise(beats: &mut [u8], n: usize) {
         beats[i] = 1;
     }
 }
+
+// The digest of more beats: 31 times what it was, plus the beat, modulo the prime 4,294,967,291.
+pub fn digest(before: u64, beats: &[u8]) -> u64 {
+    let mut sum = before % 4294967291;
+    for i in 0..beats.len() {
+        sum = (sum * 31 + wide(beats[i]) % 256) % 4294967291;
+    }
+    sum
+}

@@ -1,9 +1,7 @@
 -- `circle::plan` meets its contract, one shape of the schedule at each return. Assumes nothing.
-use mathlib.Core.List.{List}
-use Prim.Native.Nat.{ℕ}
 use native.Mathlib.Omega.{arith}
 use borrow.Author.Needs.{needs}
-use Rattle.circle.proofs.Stores.{Found, find, plan-stays, plan-alone, plan-turns, plan-swaps, plan-dips}
+use Rattle.circle.proofs.Stores.{Found, find, found-order, plan-stays, plan-alone, plan-turns, plan-swaps, plan-dips}
 use Rattle.circle.proofs.plan.Statement.{statement}
 use Rattle.circle.proofs.plan.Tie as tie
 
@@ -34,7 +32,7 @@ returns-3 c =
     plan-turns (start scanned .pre) (c .before .if2 .left) (seen scanned) (c .before .before .if1 .taken) (c .if3 .left)
 
 add-if4 : tie.Need-add-if4
-add-if4 c = search needs
+add-if4 c = omega (arith, found-order (seen (c .before)) .1)
 
 add-if5 : tie.Need-add-if5
 add-if5 c = search needs
@@ -43,7 +41,7 @@ shared-slice-read-if5 : tie.Need-shared-slice-read-if5
 shared-slice-read-if5 c = search needs
 
 sub-if6 : tie.Need-sub-if6
-sub-if6 c = search needs
+sub-if6 c = found-order (seen (c .before .before .before .before)) .0
 
 returns-4 : tie.Need-returns-4
 returns-4 c =

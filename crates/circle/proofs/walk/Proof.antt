@@ -1,10 +1,10 @@
 -- `circle::walk` meets its contract. The loop's invariant: after `counter` steps the form reached, and the beats changed so far, which
 -- are at most four a step. The measure is what is left of the steps, and each turn takes one. Assumes nothing.
-use mathlib.Core.Path.{_≡_, refl, _∙_, ap, sym}
-use Prim.Native.Nat.{ℕ, _+_, _-_, _≤_}
+use mathlib.Core.Path.{_≡_}
+use Prim.Native.Nat.{_+_, _-_, _≤_}
 use native.Mathlib.Omega.{arith}
 use borrow.Author.Needs.{needs}
-use Rattle.circle.proofs.Forms.{Walked, walked-start, walked-turn, changed-four}
+use Rattle.circle.proofs.Forms.{Walked, walked-start, walked-turn}
 use Rattle.circle.proofs.walk.Statement.{statement}
 use Rattle.circle.proofs.walk.Tie as tie
 

@@ -1,10 +1,10 @@
--- `cases_walk::circles::digest` is safe and ends. The invariant: the digest stays below its modulus. Assumes nothing.
+-- `show::digest` is safe and ends. The invariant: the digest stays below its modulus. Assumes nothing.
 use borrow.Author.Needs.{needs}
 use Prim.Native.Nat.{_≤_, _<_, _-_}
 use lib.ListN.{length}
 use mathlib.Core.Path.{_≡_}
-use Rattle.cases_walk.proofs.circles.digest.Statement.{statement}
-use Rattle.cases_walk.proofs.circles.digest.Tie as tie
+use Rattle.show.proofs.digest.Statement.{statement}
+use Rattle.show.proofs.digest.Tie as tie
 
 abbrev Inv-loop : tie.InvT-loop
 Inv-loop before beats sum₀ i₀ i-end sum i = (i ≤ length beats) × (i-end ≡ length beats) × (sum < 4294967291)

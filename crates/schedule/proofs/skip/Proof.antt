@@ -1,11 +1,11 @@
--- `circle::skip` meets its contract. The loop's invariant: the beats from `from` up to `at` are the beat that is skipped. The measure is
+-- `schedule::skip` meets its contract. The loop's invariant: the beats from `from` up to `at` are the beat that is skipped. The measure is
 -- what is left of the length, and each turn goes on by one beat. Assumes nothing.
 use Prim.Native.Nat.{_-_}
 use native.Mathlib.Omega.{arith}
 use lib.ListN.{length}
-use Rattle.circle.proofs.Skipping.{Skipping, skip-start, skip-turn, skip-end, skip-stop}
-use Rattle.circle.proofs.skip.Statement.{statement}
-use Rattle.circle.proofs.skip.Tie as tie
+use Rattle.schedule.proofs.Skipping.{Skipping, skip-start, skip-turn, skip-end, skip-stop}
+use Rattle.schedule.proofs.skip.Statement.{statement}
+use Rattle.schedule.proofs.skip.Tie as tie
 
 abbrev Inv-loop : tie.InvT-loop
 Inv-loop beats from beat at₀ at = Skipping beats from beat at
@@ -14,7 +14,7 @@ abbrev μ-loop : tie.MeasureT-loop
 μ-loop beats from beat at₀ at = length beats - at
 
 loop-holds : tie.Need-loop-holds Inv-loop μ-loop
-loop-holds c = skip-start (c .args .beats .now) (c .args .from) (c .args .beat) (c .pre)
+loop-holds c = skip-start (c .args .beats .now) (c .args .from) (c .args .beat)
 
 shared-slice-read-if2 : tie.Need-shared-slice-read-if2 Inv-loop μ-loop
 shared-slice-read-if2 c = omega arith

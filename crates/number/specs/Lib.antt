@@ -1,0 +1,4 @@
+pub mod Number
+pub mod Groups
+pub mod Ranking
+pub mod Answers

@@ -1,0 +1,28 @@
+-- The number of a form, document 01, "The number"; the letter, demand 2 [O2]. Definitions only.
+--     Fewest t s b n     n is the fewest steps that lead from t ones then s zeros to b
+--     same               whether two lists of beats are equal, as a test
+--     numberOf t s b     the number: the first n below N(t, s) for which n steps from t ones then s zeros lead to b
+--     formOf t s n       the form of number n: n steps from t ones then s zeros
+use mathlib.Core.Bool.{Bool, _&&_}
+use mathlib.Core.List.{List}
+use mathlib.Core.Path.{_≡_}
+use Prim.Native.Nat.{ℕ, _<_}
+use lib.Dec.{eqb}
+use lib.ListN.{length}
+use Rattle.bounded.specs.Bounded.{first}
+use Rattle.triangle.specs.Count.{N}
+use Rattle.circle.specs.Step.{top}
+use Rattle.circle.specs.Walk.{steps, changed}
+
+pub record Fewest (t s : ℕ) (b : List ℕ) (n : ℕ) : Type 0 where
+  pub leads : steps n (top t s) ≡ b
+  pub none-before : (k : ℕ) → k < n → steps k (top t s) ≡ b → ⊥
+
+abbrev pub same : List ℕ → List ℕ → Bool
+same b c = eqb (length b) (length c) && eqb (changed b c) 0
+
+abbrev pub numberOf : ℕ → ℕ → List ℕ → ℕ
+numberOf t s b = first (λ n. same (steps n (top t s)) b) (N t s)
+
+abbrev pub formOf : ℕ → ℕ → ℕ → List ℕ
+formOf t s n = steps n (top t s)
