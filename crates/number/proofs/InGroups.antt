@@ -175,11 +175,14 @@ module _ (t s : ℕ) (m : s ≤ suc t) (all : (i : ℕ) → i ≤ t → Placed t
             ap (λ (x : ℕ). rankOf (getD (groups n ++ top (suc t) s ∷ []) x [])) here ∙ ap rankOf (getD-append-seam (groups n) (top (suc t) s) [] []) ∙ top-rank (suc t) s;
       }
 
+  -- for t = s the group i = s has no fronts: t is the last group
+  last-equal : suc t ≡ s → lastGroup (suc t) s ≡ t
+  last-equal e = let before : pred s ≡ t = omega arith in rw (eq-eqb (suc t) s e) before
+
   S-suc : Dec (suc t ≡ s) → Placed (suc t) s (groups (lastGroup (suc t) s) ++ top (suc t) s ∷ [])
   S-suc (yes e) =
-      let level : pred s ≡ t = omega arith in
       let closes : N (suc t) (suc t) ≡ N (suc t) t = omega (arith, N-add t t (omega arith), N-over t (suc t) (omega arith)) in
-      rw (eq-eqb (suc t) s e, level) (closed t (omega arith) (omega arith) (sym closes ∙ ap (N (suc t)) e))
+      rw (last-equal e) (closed t (omega arith) (omega arith) (sym closes ∙ ap (N (suc t)) e))
   S-suc (no e) = rw (ne-eqb (suc t) s e) (closed s (omega arith) (omega arith) refl)
 
 pub S-placed : (t s : ℕ) → s ≤ t → Placed t s (S t s)

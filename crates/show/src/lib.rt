@@ -14,7 +14,7 @@ pub fn number(n: u64) {
 }
 
 // A beat as a number.
-pub fn wide(beat: u8) -> u64 {
+fn wide(beat: u8) -> u64 {
     beat as u64
 }
 
