@@ -2,8 +2,10 @@
 
 count(t, s) and check(t, s, beats) answer refusal and place as the document's table does; successor(t, s, beats) is the step.
 form_of(t, s, n) and number_of(t, s, beats) are the form of a number and the number of a form, by the groups of source 000's list
-and not by walking.
+and not by walking. tree(n, ..) and schedule_of_tree(n, ..) go by nested pairs, read from the beats or from the tables.
 """
+from functools import lru_cache
+from itertools import product
 from math import comb
 
 LARGEST = 32
@@ -168,3 +170,91 @@ def form_on_sheet(t, s, n, sheet, column):
     """Refusal and the sheet left."""
     refusal = numbered(t, s, n) or (12 if column + t + s > len(sheet) else 0)
     return (refusal, sheet if refusal else sheet[:column] + form_of(t, s, n) + sheet[column + t + s :])
+
+
+def tree_of(beats):
+    """The binary tree of a closed schedule, its final leaf put back: None for a leaf, the pair of its parts for a node."""
+    word = iter(beats + [0])
+
+    def read():
+        return (read(), read()) if next(word) else None
+
+    root = read()
+    assert next(word, None) is None
+    return root
+
+
+def word_of(node):
+    """The beats of a tree in preorder, its final leaf too."""
+    return [0] if node is None else [1] + word_of(node[0]) + word_of(node[1])
+
+
+def tables_of(root):
+    """Left children, right children and parents, by node numbers in preorder from 1."""
+    left, right, parent = {}, {}, {}
+
+    def visit(node, above):
+        if node is None:
+            return 0
+        own = len(parent) + 1
+        parent[own] = above
+        left[own] = visit(node[0], own)
+        right[own] = visit(node[1], own)
+        return own
+
+    visit(root, 0)
+    return [[table[own] for own in sorted(table)] for table in (left, right, parent)]
+
+
+def tree(n, beats, tables):
+    """Refusal, place and the three tables left."""
+    refusal, place = (1, 0) if n > LARGEST else ACCEPTED
+    if not refusal and [len(table) for table in tables] != [n] * 3:
+        refusal = 3
+    if not refusal:
+        refusal, place = check(n, n, beats)
+    return (refusal, place, tables if refusal else tables_of(tree_of(beats)))
+
+
+def key(tables):
+    return tuple(map(tuple, tables))
+
+
+@lru_cache
+def closed(n):
+    """All closed schedules of n tasks, by their tables."""
+    words = [list(word) for word in product((0, 1), repeat=2 * n)]
+    found = {key(tables_of(tree_of(word))): word for word in words if is_schedule(n, n, word)}
+    assert len(found) == forms(n, n)
+    return found
+
+
+def tree_at(node, left, right, seen):
+    """The tree below a node of two tables of children; KeyError where a number is no node or comes twice."""
+    if node == 0:
+        return None
+    if node > len(left) or node in seen:
+        raise KeyError(node)
+    seen.add(node)
+    return (tree_at(left[node - 1], left, right, seen), tree_at(right[node - 1], left, right, seen))
+
+
+def schedule_with(n, tables):
+    """The closed schedule that has three tables, or None: looked up among all, and for large n read from node 1 on."""
+    if n <= 7:
+        return closed(n).get(key(tables))
+    try:
+        root = tree_at(1, tables[0], tables[1], set())
+    except KeyError:
+        return None
+    return word_of(root)[:-1] if tables_of(root) == tables else None
+
+
+def schedule_of_tree(n, tables, out):
+    """Refusal and the bytes left."""
+    if n > LARGEST:
+        return (1, out)
+    if [len(table) for table in tables] != [n] * 3 or len(out) != 2 * n:
+        return (3, out)
+    beats = schedule_with(n, tables)
+    return (8, out) if beats is None else (0, beats)

@@ -140,6 +140,72 @@ def sheet(t, s, n, column, length):
     return with_left(*oracle.form_on_sheet(int(t), int(s), int(n), [7] * int(length), int(column)))
 
 
+def tree(n, text, *lengths):
+    refusal, place, tables = oracle.tree(int(n), beats_of(text), [[7] * int(length) for length in lengths])
+    return f"{refused(refusal, place) if refusal else 'accepted'} {' '.join(map(text_of, tables))}"
+
+
+def back(n, left, right, parent, length):
+    tables = [beats_of(text) for text in (left, right, parent)]
+    return with_left(*oracle.schedule_of_tree(int(n), tables, [7] * int(length)))
+
+
+def after_tree(n, beats):
+    """The verdict of the way there, then the bytes that were lent to it as they are after it."""
+    refusal, place, tables = oracle.tree(n, beats, [[7] * n] * 3)
+    return [[refusal, place], *tables, beats]
+
+
+def after_back(n, tables):
+    """The same of the way back."""
+    refusal, left = oracle.schedule_of_tree(n, tables, [7] * (2 * n))
+    return [[refusal, 0], *tables, left]
+
+
+def tally(backs, calls):
+    """How many ways back were accepted and how many were refused 8, and the digest of some calls."""
+    refusals = [verdict[0] for verdict, *_ in backs]
+    return f"{refusals.count(0)} {refusals.count(8)} {digest(itertools.chain(*calls))}"
+
+
+def trees(n):
+    """Every closed schedule there and back, in the order of the numbers."""
+    n = int(n)
+    forms = circle(n, n)
+    there = [after_tree(n, beats) for beats in forms]
+    backs = [after_back(n, tables) for _, *tables, _ in there]
+    assert [left for *_, left in backs] == forms
+    return tally(backs, itertools.chain(*zip(there, backs)))
+
+
+def combinations(n):
+    """Every three tables of n entries out of five; the first entry changes fastest."""
+    n = int(n)
+    backs = []
+    for entries in itertools.product((0, 1, 2, 3, 255), repeat=3 * n):
+        entries = list(reversed(entries))
+        backs.append(after_back(n, [entries[:n], entries[n : 2 * n], entries[2 * n :]]))
+    return tally(backs, backs)
+
+
+def damaged(tables):
+    """The tables with one entry changed, each entry to each value that the program takes."""
+    for which, table in enumerate(tables):
+        for node, entry in enumerate(table, 1):
+            for value in (0, (entry + 1) % 256, (entry - 1) % 256, node, 33 - node, 33, 255):
+                if value != entry:
+                    other = table[: node - 1] + [value] + table[node:]
+                    yield tables[:which] + [other] + tables[which + 1 :]
+
+
+def damage(text):
+    beats = beats_of(text)
+    assert oracle.is_schedule(32, 32, beats)
+    whole = oracle.tables_of(oracle.tree_of(beats))
+    backs = [after_back(32, tables) for tables in damaged(whole)]
+    return tally(backs, backs)
+
+
 KINDS = [
     ("order", re.compile(r"order (\d+) (\d+): (.*)"), order),
     ("round", re.compile(r"round (\d+) (\d+): (.*)"), round_of),
@@ -155,6 +221,11 @@ KINDS = [
     ("number", re.compile(r"number (\d+) (\d+) (\S+): (.*)"), number),
     ("form", re.compile(r"form (\d+) (\d+) (\d+) (\d+): (.*)"), form),
     ("sheet", re.compile(r"sheet (\d+) (\d+) (\d+) (\d+) (\d+): (.*)"), sheet),
+    ("tree", re.compile(r"tree (\d+) (\S+) (\d+) (\d+) (\d+): (.*)"), tree),
+    ("back", re.compile(r"back (\d+) (\S+) (\S+) (\S+) (\d+): (.*)"), back),
+    ("trees", re.compile(r"trees (\d+): (.*)"), trees),
+    ("combinations", re.compile(r"combinations (\d+): (.*)"), combinations),
+    ("damage", re.compile(r"damage (\S+): (.*)"), damage),
 ]
 
 

@@ -9,6 +9,7 @@ use Rattle.triangle.specs.Count.{N}
 use Rattle.schedule.specs.Schedule.{ones, zeros, isSchedule}
 use Rattle.circle.specs.Step.{shift, found, has01, movesNext, next}
 use Rattle.circle.specs.Walk.{steps, changed, worked}
+use Rattle.tree.specs.Tree.{Tree, leaf, node, size, word, root, lefts, rights, parents}
 use Rattle.demands.specs.Examples.{Example, Holds, examples}
 
 abbrev All : List Example → Type 0
@@ -23,9 +24,12 @@ infixr 5 _and_
 _and_ : {A B : Type 0} → A → B → A × B
 _and_ a b = (a, b)
 
+tree-111001001100 : Tree
+tree-111001001100 = node (node (node leaf leaf) (node leaf leaf)) (node (node leaf leaf) leaf)
+
 -- one line for each example, in the order of the list
 computed : All examples
-unfolding N every firstFrom ones zeros isSchedule shift found has01 movesNext next steps changed worked
+unfolding tree-111001001100 size word root lefts rights parents N every firstFrom ones zeros isSchedule shift found has01 movesNext next steps changed worked
 computed =
     (refl and refl and refl and refl and refl and refl and tt) and
     (refl and refl and refl and refl and refl and tt) and
@@ -47,6 +51,7 @@ computed =
     ((refl, refl) and tt) and
     refl and
     refl and
+    (record { tree = tree-111001001100; nodes = refl; beats = refl; left = refl; right = refl; parent = refl }) and
     tt
 
 pub every-example : (e : Example) → List·Memᴰ e examples → Holds e

@@ -5,15 +5,18 @@
 --                  `changes t s l`: the steps from there on change as many beats as l says
 --                  `rounds t s n`: a whole round changes n beats
 --                  `numbers t s l`: the forms of l have the numbers from 0 on, and are the forms of those numbers
+--                  `links b l r p`: the tree of the closed schedule b has the left children l, the right children r and the parents p
 --     Holds        what an example says, of the definitions
---     examples     the list [P7] [E1] [E3] [E7a]
+--     examples     the list [P7] [E1] [E3] [E7a] [E9]
 use mathlib.Core.List.{List, [], _∷_}
 use mathlib.Core.Path.{_≡_}
 use Prim.Native.Nat.{ℕ, suc}
+use lib.ListN.{length}
 use Rattle.triangle.specs.Count.{N}
 use Rattle.circle.specs.Step.{next, top}
 use Rattle.circle.specs.Walk.{changed, worked}
 use Rattle.number.specs.Number.{numberOf, formOf}
+use Rattle.tree.specs.Table.{Has}
 
 pub data Example : Type 0 where
   counts : (t s n : ℕ) → Example
@@ -21,6 +24,7 @@ pub data Example : Type 0 where
   changes : (t s : ℕ) → List ℕ → Example
   rounds : (t s n : ℕ) → Example
   numbers : (t s : ℕ) → List (List ℕ) → Example
+  links : (b l r p : List ℕ) → Example
 
 -- b, and each form after it, in the order of a list
 abbrev pub InOrder : List ℕ → List (List ℕ) → Type 0
@@ -43,6 +47,7 @@ Holds (follows t s l) = InOrder (top t s) l
 Holds (changes t s l) = Changing (top t s) l
 Holds (rounds t s n) = worked (N t s) (top t s) ≡ n
 Holds (numbers t s l) = Numbering t s 0 l
+Holds (links b l r p) = Has (length l) b l r p
 
 abbrev pub examples : List Example
 examples =
@@ -90,4 +95,9 @@ examples =
     numbers 4 0 ((1 ∷ 1 ∷ 1 ∷ 1 ∷ []) ∷ []) ∷
     numbers 0 0 ([] ∷ []) ∷
     counts 5 3 28 ∷
-    counts 8 5 572 ∷ []
+    counts 8 5 572 ∷
+    links
+    (1 ∷ 1 ∷ 1 ∷ 0 ∷ 0 ∷ 1 ∷ 0 ∷ 0 ∷ 1 ∷ 1 ∷ 0 ∷ 0 ∷ [])
+    (2 ∷ 3 ∷ 0 ∷ 0 ∷ 6 ∷ 0 ∷ [])
+    (5 ∷ 4 ∷ 0 ∷ 0 ∷ 0 ∷ 0 ∷ [])
+    (0 ∷ 1 ∷ 2 ∷ 2 ∷ 1 ∷ 5 ∷ []) ∷ []

@@ -1,6 +1,9 @@
 -- The check of a lent list of beats, document 01, "Refusal numbers" (rows 1 to 6, and Order: schedules). Definitions only.
 --     badBeat       the first beat that is neither 0 nor 1; the length where there is none
 --     emptyHand     the first beat that sets down with nothing in hand: a 0 with no more ones than zeros before it; the length where there is none
+--     handRows      the refusals that zeros and ones of the right length can get, in their order: 5, 6
+--     playRows      the same of beats of any value: 4 over all beats first
+--     beatRows      the same of beats of any length: 3 first
 --     checkRows     the refusals that a lent schedule can get, in their order: those of its counts first [R9]
 --     checked       the verdict on it
 use mathlib.Core.Bool.{Bool, not, _&&_}
@@ -27,12 +30,16 @@ badBeat b = first (isBad b) (length b)
 abbrev pub emptyHand : List ℕ → ℕ
 emptyHand b = first (isBare b) (length b)
 
-abbrev pub beatRows : ℕ → ℕ → List ℕ → List Row
-beatRows t s b =
-    (not (eqb (length b) (t + s)) ⇒ WrongLength) ∷
-    (ltb (badBeat b) (length b) ⇒ BadBeat (badBeat b)) ∷
+abbrev pub handRows : ℕ → List ℕ → List Row
+handRows t b =
     (ltb (emptyHand b) (length b) ⇒ EmptyHand (emptyHand b)) ∷
     (not (eqb (ones b) t) ⇒ WrongTakeUps) ∷ []
+
+abbrev pub playRows : ℕ → List ℕ → List Row
+playRows t b = (ltb (badBeat b) (length b) ⇒ BadBeat (badBeat b)) ∷ handRows t b
+
+abbrev pub beatRows : ℕ → ℕ → List ℕ → List Row
+beatRows t s b = (not (eqb (length b) (t + s)) ⇒ WrongLength) ∷ playRows t b
 
 abbrev pub checkRows : ℕ → ℕ → List ℕ → List Row
 checkRows t s b = countRows t s ++ beatRows t s b
