@@ -4,7 +4,7 @@ count(t, s) and check(t, s, beats) answer refusal and place as the document's ta
 form_of(t, s, n) and number_of(t, s, beats) are the form of a number and the number of a form, by the groups of source 000's list
 and not by walking. tree(n, ..) and schedule_of_tree(n, ..) go by nested pairs, read from the beats or from the tables.
 """
-from functools import lru_cache
+from functools import cache
 from itertools import product
 from math import comb
 
@@ -43,6 +43,7 @@ def is_schedule(t, s, beats):
     )
 
 
+@cache
 def forms(t, s):
     """N(t, s) by the closed formula."""
     if s > t:
@@ -111,6 +112,7 @@ def run(t, s, beats, k):
     return (0, 0, worked, beats)
 
 
+@cache
 def group_sizes(t, s):
     """The groups of source 000's list S(t, s), (7a) and (7b): i, and how many forms end in a 1 and then s - i zeros."""
     last = s - 1 if t == s else s
@@ -220,7 +222,7 @@ def key(tables):
     return tuple(map(tuple, tables))
 
 
-@lru_cache
+@cache
 def closed(n):
     """All closed schedules of n tasks, by their tables."""
     words = [list(word) for word in product((0, 1), repeat=2 * n)]

@@ -10,6 +10,7 @@ import re
 import sys
 
 import oracle
+import packing
 
 ROOT = pathlib.Path(__file__).resolve().parent.parent
 
@@ -206,6 +207,79 @@ def damage(text):
     return tally(backs, backs)
 
 
+def writing(kind, t, s, beats, room):
+    """What writing into so many bytes that are 7 answers (refusal, place and value), and the bytes left."""
+    known = kind in (packing.NUMBERED, packing.PACKED)
+    refusal, place = oracle.check(t, s, beats) if known else (10, 0)
+    record = [] if refusal else list(packing.record(kind, t, s, beats))
+    if len(record) > room:
+        refusal, record = 12, []
+    return ((refusal, place, len(record)), record + [7] * (room - len(record)))
+
+
+def write(kind, t, s, text, room):
+    (refusal, place, value), left = writing(int(kind), int(t), int(s), beats_of(text), int(room))
+    return f"{refused(refusal, place) if refusal else value} {text_of(left)}"
+
+
+def reading(data, room):
+    """What reading in so many places that are 7 answers (refusal, place, t, s, number and bytes consumed), and the places left."""
+    line, consumed, _ = packing.line_of(bytes(data), 0) if room >= 64 else (packing.refused(12), 0, False)
+    *numbers, last = line.split()
+    if numbers[0] == "refused":
+        return ((int(numbers[1]), int(last), 0, 0, 0, consumed), [7] * room)
+    beats = beats_of(last)
+    return ((0, 0, *map(int, numbers), consumed), beats + [7] * (room - len(beats)))
+
+
+def read_line(data, room):
+    (refusal, place, *said), left = reading(data, room)
+    return " ".join([refused(refusal, place) if refusal else "accepted", *map(str, said), text_of(left)])
+
+
+def read(text, room):
+    return read_line(beats_of(text), int(room))
+
+
+def filled(text, length):
+    """Some bytes, and zeros behind them."""
+    head = beats_of(text)
+    return read_line(head + [0] * (int(length) - len(head)), 66)
+
+
+def there_and_back(forms):
+    """How many records of some forms, in each kind, say the form again, and the digest of both calls of each."""
+    same, calls = 0, []
+    for (t, s, beats), kind in itertools.product(forms, (packing.NUMBERED, packing.PACKED)):
+        written, record = writing(kind, t, s, beats, 16)
+        said, left = reading(record, 66)
+        same += said == (0, 0, t, s, oracle.number_of(t, s, beats), written[2]) and left[: t + s] == beats
+        calls += [written, record, said, left]
+    assert same == 2 * len(forms)
+    return f"{same} {digest(calls)}"
+
+
+def records(t, s):
+    """Every form of two counts, in the order of the numbers."""
+    t, s = int(t), int(s)
+    return there_and_back([(t, s, beats) for beats in circle(t, s)])
+
+
+def scattered(t):
+    """Four forms of every s."""
+    t = int(t)
+    numbers = [(s, k * 11400714819323198485 % 2**64 % oracle.forms(t, s)) for s in range(t + 1) for k in range(4)]
+    return there_and_back([(t, s, oracle.form_of(t, s, n)) for s, n in numbers])
+
+
+def changes(text):
+    """Each byte of a record set to each value: how many of these are accepted, and the digest."""
+    data = beats_of(text)
+    readings = [reading(data[:at] + [value] + data[at + 1 :], 66) for at in range(len(data)) for value in range(256)]
+    accepted = sum(1 for said, _ in readings if said[0] == 0)
+    return f"{accepted} {digest(itertools.chain(*readings))}"
+
+
 KINDS = [
     ("order", re.compile(r"order (\d+) (\d+): (.*)"), order),
     ("round", re.compile(r"round (\d+) (\d+): (.*)"), round_of),
@@ -226,6 +300,12 @@ KINDS = [
     ("trees", re.compile(r"trees (\d+): (.*)"), trees),
     ("combinations", re.compile(r"combinations (\d+): (.*)"), combinations),
     ("damage", re.compile(r"damage (\S+): (.*)"), damage),
+    ("write", re.compile(r"write (\d+) (\d+) (\d+) (\S+) (\d+): (.*)"), write),
+    ("read", re.compile(r"read (\S+) (\d+): (.*)"), read),
+    ("filled", re.compile(r"filled (\S+) (\d+): (.*)"), filled),
+    ("records", re.compile(r"records (\d+) (\d+): (.*)"), records),
+    ("scattered", re.compile(r"scattered (\d+): (.*)"), scattered),
+    ("changes", re.compile(r"changes (\S+): (.*)"), changes),
 ]
 
 

@@ -1,0 +1,150 @@
+/* The packing list in C, the plain way: fread for the parts of a record, printf for a line, a loop over the beats. */
+#include <stdint.h>
+#include <stdio.h>
+#include <string.h>
+
+enum { LARGEST = 32, LONGEST = 1020 };
+
+static uint64_t forms[LARGEST + 1][LARGEST + 1];
+
+static void make_forms(void) {
+    for (int t = 0; t <= LARGEST; t++)
+        for (int s = 0; s <= t; s++)
+            forms[t][s] = s == 0 ? 1 : forms[t - 1][s] + forms[t][s - 1];
+}
+
+static void refused(int refusal, int place) {
+    printf("refused %d %d\n", refusal, place);
+}
+
+static void accepted(int t, int s, uint64_t n, const char *beats) {
+    printf("%d %d %llu %s\n", t, s, (unsigned long long)n, t == 0 ? "-" : beats);
+}
+
+/* The form of a number above 0, from the last beat on: a 1 belongs to the group of all s set-downs. */
+static void form(int t, int s, uint64_t n, char *beats) {
+    while (s > 0 && n < forms[t][s]) {
+        if (n < forms[t][s - 1]) {
+            beats[t + s - 1] = '0';
+            s--;
+        } else {
+            beats[t + s - 1] = '1';
+            n -= forms[t][s - 1] - 1;
+            t--;
+        }
+    }
+    memset(beats, '1', t);
+    memset(beats + t, '0', s);
+}
+
+/* The number of a schedule: the beats up to the leftmost 01 have their count, and each later 1 adds the groups before its own. */
+static uint64_t number(int t, int s, const char *beats) {
+    int ups = 0, downs = 0, k = 0;
+    uint64_t n;
+    while (k < t + s && beats[k] == '1') {
+        ups++;
+        k++;
+    }
+    while (k < t + s && beats[k] == '0') {
+        downs++;
+        k++;
+    }
+    if (k == t + s)
+        return 0;
+    n = forms[ups][downs];
+    for (; k < t + s; k++) {
+        if (beats[k] == '1') {
+            ups++;
+            n += forms[ups][downs - 1] - 1;
+        } else {
+            downs++;
+        }
+    }
+    return n;
+}
+
+static void numbered(int t, int s, const unsigned char *bytes) {
+    char beats[2 * LARGEST + 1] = "";
+    uint64_t n = 0;
+    for (int k = 7; k >= 0; k--)
+        n = n << 8 | bytes[k];
+    if (n >= forms[t][s]) {
+        refused(7, 0);
+        return;
+    }
+    form(t, s, n == 0 ? forms[t][s] : n, beats);
+    accepted(t, s, n, beats);
+}
+
+static void packed(int t, int s, const unsigned char *bytes, int length) {
+    char beats[2 * LARGEST + 8 + 1] = "";
+    int ones = 0, bare = -1;
+    if (length != (t + s + 7) / 8) {
+        refused(11, 0);
+        return;
+    }
+    for (int k = 0; k < 8 * length; k++) {
+        int beat = bytes[k / 8] >> (7 - k % 8) & 1;
+        if (k >= t + s) {
+            if (beat) {
+                refused(11, 0);
+                return;
+            }
+            continue;
+        }
+        beats[k] = beat ? '1' : '0';
+        if (beat)
+            ones++;
+        else if (bare < 0 && 2 * ones <= k)
+            bare = k;
+    }
+    if (bare >= 0)
+        refused(5, bare);
+    else if (ones != t)
+        refused(6, 0);
+    else
+        accepted(t, s, number(t, s, beats), beats);
+}
+
+/* What stands behind a length, all of it there. */
+static void line(const unsigned char *body, int length) {
+    int kind, t, s;
+    if (length < 2) {
+        refused(11, 0);
+        return;
+    }
+    kind = body[0] | body[1] << 8;
+    if (kind != 1 && kind != 2) {
+        refused(10, 0);
+        return;
+    }
+    if (kind == 1 ? length != 12 : length < 4) {
+        refused(11, 0);
+        return;
+    }
+    t = body[2];
+    s = body[3];
+    if (t > LARGEST)
+        refused(1, 0);
+    else if (s > t)
+        refused(2, 0);
+    else if (kind == 1)
+        numbered(t, s, body + 4);
+    else
+        packed(t, s, body + 4, length - 4);
+}
+
+int main(void) {
+    unsigned char size[2], body[LONGEST];
+    size_t got;
+    make_forms();
+    while ((got = fread(size, 1, 2, stdin)) > 0) {
+        int length = size[0] | size[1] << 8;
+        if (got < 2 || length > LONGEST || fread(body, 1, length, stdin) < (size_t)length) {
+            refused(9, 0);
+            break;
+        }
+        line(body, length);
+    }
+    return fflush(stdout) == 0 && !ferror(stdin) ? 0 : 1;
+}

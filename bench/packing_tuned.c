@@ -1,0 +1,295 @@
+/* The packing list in C, tuned: what the program is measured against.
+   Large blocks in and out, tables for all that is looked up, and for an accepted record no branch on a beat or a digit.
+   For gcc on a little-endian machine. */
+#include <stdint.h>
+#include <stdlib.h>
+#include <string.h>
+#include <unistd.h>
+
+typedef uint8_t u8;
+typedef uint16_t u16;
+typedef uint32_t u32;
+typedef uint64_t u64;
+
+enum {
+    LARGEST = 32,
+    SIDE = LARGEST + 1,
+    BEATS = 2 * LARGEST,
+    FRONT = 16,     /* beats in front that are looked up together */
+    FRONTS = 12870, /* C(16, 8), the schedules of so many beats */
+    LONGEST = 1020,
+    RECORD = 2 + LONGEST,
+    BLOCK = 1 << 17,
+    SLACK = 64, /* whole words are read and written past the ends */
+    LINE = 128  /* more than any line with its slack */
+};
+
+/* The gain of a take-up behind a bare set-down. The gains of a schedule sum to less than 2^56, and 32 of these do not overflow. */
+#define BARE ((u64)1 << 58)
+
+/* For the form at place q of list S(t, s): its last beat is 1 exactly if q - low < width, and then the beats before it stand at
+   place q - low. Else they stand at place q. */
+struct bound {
+    u64 low, width;
+};
+
+static u64 forms[SIDE][SIDE];
+static struct bound bounds[SIDE][SIDE];
+static u16 fronts[FRONTS];     /* the lists S(t, s) of t + s = 16, one behind the other */
+static u32 starts[SIDE][SIDE]; /* where list S(t, s) of no more beats starts in them, take-ups behind its forms */
+static u64 gain[SIDE][BEATS];  /* what the k-th take-up adds to the number when it stands at a place */
+static u64 heads[SIDE][SIDE];  /* "t s ", its length in the highest byte */
+static u64 digits[256];        /* the bits of a byte as digits, the highest first */
+static u64 first[BEATS + 1];   /* the first k bits */
+
+static u8 in[BLOCK + SLACK];
+static u8 out[BLOCK + LINE];
+static u8 *put = out;
+static int ended;
+
+static void make_forms(void) {
+    for (int t = 0; t <= LARGEST; t++)
+        for (int s = 0; s <= t; s++)
+            forms[t][s] = s == 0 ? 1 : forms[t - 1][s] + forms[t][s - 1];
+}
+
+static void make_bounds(void) {
+    for (int t = 0; t <= LARGEST; t++) {
+        bounds[t][0] = (struct bound){0, UINT64_MAX};
+        for (int s = 1; s <= t; s++)
+            bounds[t][s] = (struct bound){forms[t][s - 1] - 1, forms[t][s] - forms[t][s - 1]};
+    }
+}
+
+/* The forms of list S(t, s) with a tail behind them. */
+static u16 *list(u16 *at, int t, int s, int tail) {
+    for (int i = 1; i <= s && i < t; i++)
+        at = list(at, t - 1, i, tail | 1 << (FRONT - t - i));
+    *at = tail | ((1 << t) - 1) << (FRONT - t);
+    return at + 1;
+}
+
+static void make_fronts(void) {
+    u16 *at = fronts;
+    for (int s = 0; s <= FRONT / 2; s++) {
+        starts[FRONT - s][s] = at - fronts;
+        at = list(at, FRONT - s, s, 0);
+        for (int t = FRONT - s - 1; t >= s; t--)
+            starts[t][s] = starts[t + 1][s] + (s ? forms[t + 1][s - 1] - 1 : 0);
+    }
+}
+
+static void make_gain(void) {
+    for (int k = 1; k <= LARGEST; k++)
+        for (int place = 0; place < BEATS; place++) {
+            int downs = place - (k - 1);
+            gain[k][place] = downs >= k ? BARE : downs <= 0 ? 0 : forms[k][downs - 1] - 1;
+        }
+}
+
+static void make_heads(void) {
+    for (int t = 0; t <= LARGEST; t++)
+        for (int s = 0; s <= t; s++) {
+            u8 text[8] = {0};
+            int n = 0;
+            if (t > 9) text[n++] = '0' + t / 10;
+            text[n++] = '0' + t % 10;
+            text[n++] = ' ';
+            if (s > 9) text[n++] = '0' + s / 10;
+            text[n++] = '0' + s % 10;
+            text[n++] = ' ';
+            text[7] = n;
+            memcpy(&heads[t][s], text, 8);
+        }
+}
+
+static void make_small(void) {
+    for (int byte = 0; byte < 256; byte++)
+        for (int bit = 0; bit < 8; bit++)
+            digits[byte] |= (u64)('0' + (byte >> (7 - bit) & 1)) << (8 * bit);
+    for (int k = 1; k <= BEATS; k++)
+        first[k] = UINT64_MAX << (BEATS - k);
+}
+
+static u64 word(const u8 *at) {
+    u64 w;
+    memcpy(&w, at, 8);
+    return w;
+}
+
+static void put_word(u8 *at, u64 w) {
+    memcpy(at, &w, 8);
+}
+
+/* Eight digits of a number below 10^8, the first in the lowest byte: halves, quarters, eighths side by side. */
+static u64 eight_digits(u64 n) {
+    u64 four = n / 10000 | (n % 10000) << 32;
+    u64 hundreds = (four * 10486 >> 20) & 0x0000007F0000007F;
+    u64 two = hundreds | (four - hundreds * 100) << 16;
+    u64 tens = (two * 103 >> 10) & 0x000F000F000F000F;
+    return tens | (two - tens * 10) << 8;
+}
+
+/* A number below 10^17: its last sixteen digits as one word of two, shifted by the zeros in front. */
+static u8 *decimal(u8 *at, u64 n) {
+    u64 top = n / 10000000000000000;
+    n %= 10000000000000000;
+    u64 high = eight_digits(n / 100000000), low = eight_digits(n % 100000000);
+    int zeros = high ? __builtin_ctzll(high) / 8 : 8 + __builtin_ctzll(low | (u64)1 << 56) / 8;
+    *at = '0' + top;
+    at += top != 0;
+    zeros = top ? 0 : zeros;
+    unsigned __int128 both = (unsigned __int128)(low | 0x3030303030303030) << 64 | (high | 0x3030303030303030);
+    both >>= 8 * zeros;
+    memcpy(at, &both, 16);
+    return at + 16 - zeros;
+}
+
+static u8 *accepted(u8 *at, unsigned t, unsigned s, u64 n, u64 beats) {
+    u64 head = heads[t][s];
+    put_word(at, head);
+    at = decimal(at + (head >> 56), n);
+    *at++ = ' ';
+    for (int k = 0; k < 8; k++)
+        put_word(at + 8 * k, digits[beats >> (56 - 8 * k) & 255]);
+    at += t + s;
+    if (t == 0) *at++ = '-';
+    *at++ = '\n';
+    return at;
+}
+
+static u8 *refused(u8 *at, unsigned refusal, unsigned place) {
+    memcpy(at, "refused ", 8);
+    at = decimal(at + 8, refusal);
+    *at++ = ' ';
+    at = decimal(at, place);
+    *at++ = '\n';
+    return at;
+}
+
+/* The beats of the form at a place q in list S, from the last on. Past the end of a list q stands for its last form. */
+static u64 form(unsigned t, unsigned s, u64 q) {
+    const struct bound *b = &bounds[t][s];
+    u64 behind = 0;
+    for (unsigned left = t + s; left > FRONT; left--) {
+        u64 one = -(u64)(q - b->low < b->width);
+        behind = behind >> 1 | (one & (u64)1 << 63);
+        q -= b->low & one;
+        b = (const struct bound *)((const u8 *)b - sizeof *b - (one & (SIDE - 1) * sizeof *b));
+    }
+    size_t pair = b - bounds[0];
+    u64 last = (&forms[0][0])[pair] - 1;
+    u64 front = fronts[(&starts[0][0])[pair] + (q < last ? q : last)];
+    return (behind >> FRONT | front << (64 - FRONT)) & first[t + s];
+}
+
+static unsigned ones(u64 w) {
+    w -= w >> 1 & 0x5555555555555555;
+    w = (w & 0x3333333333333333) + (w >> 2 & 0x3333333333333333);
+    return ((w + (w >> 4)) & 0x0F0F0F0F0F0F0F0F) * 0x0101010101010101 >> 56;
+}
+
+/* Of beats with t ones: the sum of the gains, from the last take-up on. */
+static u64 gains(unsigned t, u64 beats) {
+    u64 sum = 0;
+    for (unsigned k = t; k > 0; k--) {
+        sum += gain[k][63 - __builtin_ctzll(beats)];
+        beats &= beats - 1;
+    }
+    return sum;
+}
+
+/* The take-ups and set-downs in front have their own count in place of a gain; a number of N is 0. */
+static u64 number(unsigned t, unsigned s, u64 beats, u64 sum) {
+    unsigned ups = __builtin_clzll(~beats);
+    u64 behind = beats << ups;
+    u64 n = sum + forms[ups][behind ? (unsigned)__builtin_clzll(behind) : s];
+    return n == forms[t][s] ? 0 : n;
+}
+
+/* Beats that are no schedule: the first set-down with nothing in hand, or else the wrong number of ones. */
+static u8 *no_schedule(u8 *at, unsigned length, u64 beats) {
+    int hand = 0;
+    for (unsigned k = 0; k < length; k++) {
+        hand += beats >> (63 - k) & 1 ? 1 : -1;
+        if (hand < 0) return refused(at, 5, k);
+    }
+    return refused(at, 6, 0);
+}
+
+static u8 *packed(u8 *at, unsigned length, const u8 *body) {
+    unsigned t = body[2], s = body[3], width = (t + s + 7) / 8;
+    u64 beats = __builtin_bswap64(word(body + 4)) & first[8 * width];
+    if (length != 4 + width || (beats & ~first[t + s])) return refused(at, 11, 0);
+    if (ones(beats) != t) return no_schedule(at, t + s, beats);
+    u64 sum = gains(t, beats);
+    if (sum >= BARE) return no_schedule(at, t + s, beats);
+    return accepted(at, t, s, number(t, s, beats, sum), beats);
+}
+
+static u8 *numbered(u8 *at, const u8 *body) {
+    unsigned t = body[2], s = body[3];
+    u64 n = word(body + 4);
+    if (n >= forms[t][s]) return refused(at, 7, 0);
+    return accepted(at, t, s, n, n ? form(t, s, n - 1) : first[t]);
+}
+
+/* The line of what stands behind a length. */
+static u8 *line(u8 *at, unsigned length, const u8 *body) {
+    if (length < 2) return refused(at, 11, 0);
+    unsigned kind = body[0] | body[1] << 8;
+    if (kind != 1 && kind != 2) return refused(at, 10, 0);
+    if (kind == 1 ? length != 12 : length < 4) return refused(at, 11, 0);
+    if (body[2] > LARGEST) return refused(at, 1, 0);
+    if (body[3] > body[2]) return refused(at, 2, 0);
+    return kind == 1 ? numbered(at, body) : packed(at, length, body);
+}
+
+static void flush(void) {
+    for (u8 *from = out; from < put;) {
+        ssize_t n = write(1, from, put - from);
+        if (n <= 0) exit(1);
+        from += n;
+    }
+    put = out;
+}
+
+/* Moves what is left to the front and reads until a longest record is there or the input ends. Answers the bytes there. */
+static size_t refill(const u8 *from, size_t have) {
+    memmove(in, from, have);
+    while (have < RECORD && !ended) {
+        ssize_t n = read(0, in + have, BLOCK - have);
+        if (n < 0) exit(1);
+        ended = n == 0;
+        have += n;
+    }
+    return have;
+}
+
+int main(void) {
+    make_forms();
+    make_bounds();
+    make_fronts();
+    make_gain();
+    make_heads();
+    make_small();
+    const u8 *from = in, *end = in + refill(in, 0);
+    for (;;) {
+        if (end - from < RECORD) {
+            size_t have = refill(from, end - from);
+            from = in;
+            end = in + have;
+            if (have == 0) break;
+        }
+        if (put - out > BLOCK) flush();
+        unsigned length = from[0] | from[1] << 8;
+        if (end - from < 2 || length > LONGEST || end - from < 2 + (int)length) {
+            put = refused(put, 9, 0);
+            break;
+        }
+        put = line(put, length, from + 2);
+        from += 2 + length;
+    }
+    flush();
+    return 0;
+}

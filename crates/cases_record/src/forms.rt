@@ -1,0 +1,76 @@
+// Records of some forms, of each kind: with a byte too little room, with exactly enough, and with three bytes
+// more. What is written is read back, alone and with those three bytes behind it.
+use crate::asks;
+
+// A record of so many bytes, 1 to 14.
+fn print_rooms(kind: u64, t: u64, s: u64, beats: &[u8], size: usize) {
+    if size == 0 {
+        return;
+    }
+    if 14 < size {
+        return;
+    }
+    asks::write(kind, t, s, beats, size - 1);
+    asks::both(kind, t, s, beats, size);
+    asks::both(kind, t, s, beats, size + 3);
+}
+
+// Both kinds, for at most 64 beats.
+fn print_kinds(t: u64, s: u64, beats: &[u8]) {
+    if 64 < beats.len() {
+        return;
+    }
+    print_rooms(1, t, s, beats, 14);
+    print_rooms(2, t, s, beats, 6 + (beats.len() + 7) / 8);
+}
+
+fn print_form_in(t: u64, s: u64, x: u64, beats: &mut [u8]) {
+    number::form(t, s, x, beats);
+    print_kinds(t, s, beats);
+}
+
+// The form of a number, for t and s up to 32.
+fn print_form(t: u64, s: u64, x: u64) {
+    if 32 < t {
+        return;
+    }
+    if 32 < s {
+        return;
+    }
+    let mut beats = [7u8; 64];
+    let n = (t + s) as usize;
+    print_form_in(t, s, x, &mut beats[..n]);
+}
+
+// The forms of the examples of document 01; those of (3,2) all.
+pub fn small() {
+    print_form(0, 0, 0);
+    print_form(1, 1, 0);
+    print_form(3, 2, 0);
+    print_form(3, 2, 1);
+    print_form(3, 2, 2);
+    print_form(3, 2, 3);
+    print_form(3, 2, 4);
+    print_form(4, 0, 0);
+}
+
+// Beats of eight, of nine, of thirteen and of sixteen, and the last form of (8,5).
+pub fn middle() {
+    print_form(4, 4, 13);
+    print_form(5, 4, 20);
+    print_form(8, 5, 0);
+    print_form(8, 5, 1);
+    print_form(8, 5, 286);
+    print_form(8, 5, 571);
+    print_form(8, 8, 1000);
+}
+
+// The largest counts: the first forms, one in the middle, and the last.
+pub fn large() {
+    print_form(32, 0, 0);
+    print_form(32, 31, 12345678901234567);
+    print_form(32, 32, 0);
+    print_form(32, 32, 1);
+    print_form(32, 32, 27767032438524099);
+    print_form(32, 32, 55534064877048197);
+}

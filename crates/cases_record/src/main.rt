@@ -1,0 +1,61 @@
+// Writes order records and reads them: document 01, "Order record". Some forms are written in both kinds and
+// read back in full, all forms of the small counts and some of every larger pair in digests, and both ways are
+// asked on both sides of every refusal. The file stdout says what it must print; each line of it is worked out
+// again by host/oracle.py and host/packing.py, without this code.
+mod asks;
+mod backs;
+mod changes;
+mod folds;
+mod forms;
+mod orders;
+mod reads;
+mod spelled;
+mod writes;
+
+fn print_forms() {
+    forms::small();
+    forms::middle();
+    forms::large();
+    backs::print_sizes(8);
+    backs::print_scattered(8, 33);
+    changes::print_all();
+}
+
+fn print_writes() {
+    writes::kinds();
+    writes::sizes();
+    writes::lengths();
+    writes::beats();
+    writes::rooms();
+    writes::first_refusals();
+}
+
+fn print_reads() {
+    reads::rooms();
+    reads::cuts();
+    reads::short();
+    reads::kinds();
+    reads::numbered_lengths();
+    reads::packed_lengths();
+    reads::sizes();
+    reads::exact_lengths();
+    reads::unused_bits();
+    reads::numbers();
+    reads::largest_numbers();
+    reads::empty_hands();
+    reads::take_ups();
+    reads::long();
+}
+
+fn main() {
+    print_forms();
+    print_writes();
+    print_reads();
+    orders::no_room();
+    orders::cut_short();
+    orders::of_kinds();
+    orders::of_sizes();
+    orders::of_lengths();
+    orders::of_beats();
+    orders::long();
+}

@@ -1,0 +1,69 @@
+-- The definitions of specs/ on small inputs, by computing them: lines of document 01, "Examples on both sides", and that of
+-- the empty schedule; for each part of Spells a text that is refused for it. Assumes nothing.
+use mathlib.Core.List.{[], _∷_}
+use mathlib.Core.Path.{_≡_, refl}
+use native.Mathlib.Omega.{arith}
+use Rattle.line.specs.Line.{digits, decimal, beatText, acceptedLine, refusedLine}
+use Rattle.line.specs.Spells.{digitsValue, Spells}
+
+decimal-0 : decimal 0 ≡ 48 ∷ []
+unfolding decimal digits
+decimal-0 = refl
+
+decimal-7 : decimal 7 ≡ 55 ∷ []
+unfolding decimal digits
+decimal-7 = refl
+
+decimal-10 : decimal 10 ≡ 49 ∷ 48 ∷ []
+unfolding decimal digits
+decimal-10 = refl
+
+-- the number of forms of 32, 32, the largest count
+decimal-largest : decimal 55534064877048198
+    ≡ 53 ∷ 53 ∷ 53 ∷ 51 ∷ 52 ∷ 48 ∷ 54 ∷ 52 ∷ 56 ∷ 55 ∷ 55 ∷ 48 ∷ 52 ∷ 56 ∷ 49 ∷ 57 ∷ 56 ∷ []
+unfolding decimal digits
+decimal-largest = refl
+
+-- the largest number of 64 bits, of twenty digits
+decimal-64 : decimal 18446744073709551615
+    ≡ 49 ∷ 56 ∷ 52 ∷ 52 ∷ 54 ∷ 55 ∷ 52 ∷ 52 ∷ 48 ∷ 55 ∷ 51 ∷ 55 ∷ 48 ∷ 57 ∷ 53 ∷ 53 ∷ 49 ∷ 54 ∷ 49 ∷ 53 ∷ []
+unfolding decimal digits
+decimal-64 = refl
+
+-- "3 2 2 11010" and a line feed
+line-3-2-2 : acceptedLine 3 2 2 (1 ∷ 1 ∷ 0 ∷ 1 ∷ 0 ∷ [])
+    ≡ 51 ∷ 32 ∷ 50 ∷ 32 ∷ 50 ∷ 32 ∷ 49 ∷ 49 ∷ 48 ∷ 49 ∷ 48 ∷ 10 ∷ []
+unfolding decimal digits beatText
+line-3-2-2 = refl
+
+-- "1 1 0 10" and a line feed
+line-1-1-0 : acceptedLine 1 1 0 (1 ∷ 0 ∷ []) ≡ 49 ∷ 32 ∷ 49 ∷ 32 ∷ 48 ∷ 32 ∷ 49 ∷ 48 ∷ 10 ∷ []
+unfolding decimal digits beatText
+line-1-1-0 = refl
+
+-- "0 0 0 -" and a line feed
+line-empty : acceptedLine 0 0 0 [] ≡ 48 ∷ 32 ∷ 48 ∷ 32 ∷ 48 ∷ 32 ∷ 45 ∷ 10 ∷ []
+unfolding decimal digits beatText
+line-empty = refl
+
+-- "refused 7 0" and a line feed
+line-refused : refusedLine 7 0 ≡ 114 ∷ 101 ∷ 102 ∷ 117 ∷ 115 ∷ 101 ∷ 100 ∷ 32 ∷ 55 ∷ 32 ∷ 48 ∷ 10 ∷ []
+unfolding decimal digits
+line-refused = refl
+
+-- 1a is no number
+not-a-digit : Spells 59 (49 ∷ 97 ∷ []) → ⊥
+not-a-digit q = omega (arith, q .digits 1 (omega arith) .1)
+
+-- 21 is not 12
+not-reversed : Spells 12 (50 ∷ 49 ∷ []) → ⊥
+unfolding digitsValue
+not-reversed q = omega (arith, q .value)
+
+-- no digits at all are not 0
+not-empty : Spells 0 [] → ⊥
+not-empty q = omega (arith, q .some)
+
+-- 07 is not how 7 is written
+no-zero-first : Spells 7 (48 ∷ 55 ∷ []) → ⊥
+no-zero-first q = omega (arith, q .first (omega arith))

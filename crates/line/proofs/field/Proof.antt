@@ -1,0 +1,29 @@
+-- `line::field` meets its contract: the number and then the space. Assumes nothing.
+use native.Mathlib.Omega.{arith}
+use Rattle.line.proofs.Digits.{digits-fit}
+use Rattle.line.proofs.Writing.{written-then}
+use borrow.Author.Needs.{needs}
+use Rattle.line.proofs.field.Statement.{statement}
+use Rattle.line.proofs.field.Tie as tie
+
+decimal-requires : tie.Need-decimal-requires
+decimal-requires c κs = search needs
+
+put-requires : tie.Need-put-requires
+put-requires c κs =
+    let called = c .before .before .before in
+    let start = called .before .before .before in
+    let few = digits-fit (start .args .n) (search needs) in
+    omega (arith, called .decimal .ensures .end, called .decimal .kept .1 .0, start .pre)
+
+same-length : tie.Need-same-length
+same-length c = search needs
+
+returns : tie.Need-returns
+returns c =
+    let called = c .before .before in
+    let first = called .before .before .before .before in
+    written-then (search needs) (first .decimal .ensures) (called .put .ensures)
+
+pub field-spec : {M : Type 1} → statement M
+field-spec = tie.close (tie.spec decimal-requires put-requires same-length returns)

@@ -1,0 +1,33 @@
+-- The text of a line of the packing list, document 01, "Examples on both sides": lists of ASCII codes. Definitions only.
+--     digits k n       the digits of n in base ten, the most significant first, found by at most k divisions; none for 0
+--     decimal n        the digits of n, and the digit 0 for 0; n divisions are enough for any n
+--     Beats b          every beat is 0 or 1
+--     beatText b       the beats run together as digits; - for the empty schedule
+--     acceptedLine     t, s, the number and the beats, separated by one space; a line feed ends the line
+--     refusedLine      the word refused, the refusal's number and the place, separated so; a line feed ends the line
+use mathlib.Core.List.{List, [], _∷_, _++_, map}
+use Prim.Native.Nat.{ℕ, zero, suc, _+_, _/_, _%_, _≤_, _<_}
+use lib.ListN.{length, getD}
+
+unfoldable pub digits : ℕ → ℕ → List ℕ
+digits zero n = []
+digits (suc k) zero = []
+digits (suc k) (suc n) = digits k (suc n / 10) ++ (48 + suc n % 10) ∷ []
+
+unfoldable pub decimal : ℕ → List ℕ
+decimal n = digits n (n / 10) ++ (48 + n % 10) ∷ []
+
+abbrev pub Beats : List ℕ → Type 0
+Beats b = (k : ℕ) → k < length b → getD b k 0 ≤ 1
+
+unfoldable pub beatText : List ℕ → List ℕ
+beatText [] = 45 ∷ []
+beatText (x ∷ b) = map (λ y. 48 + y) (x ∷ b)
+
+abbrev pub acceptedLine : ℕ → ℕ → ℕ → List ℕ → List ℕ
+acceptedLine t s n b = decimal t ++ 32 ∷ decimal s ++ 32 ∷ decimal n ++ 32 ∷ beatText b ++ 10 ∷ []
+
+-- 114, 101, 102, 117, 115, 101, 100 and 32 are the word refused and a space
+abbrev pub refusedLine : ℕ → ℕ → List ℕ
+refusedLine number place =
+    114 ∷ 101 ∷ 102 ∷ 117 ∷ 115 ∷ 101 ∷ 100 ∷ 32 ∷ decimal number ++ 32 ∷ decimal place ++ 10 ∷ []

@@ -1,0 +1,25 @@
+-- `flush` meets its contract. Assumes nothing.
+use mathlib.Core.Path.{sym}
+use lib.Seq.{length-take-le}
+use borrow.Author.Needs.{needs}
+use Rattle.packing_list.proofs.flush.Statement.{statement}
+use Rattle.packing_list.proofs.flush.Tie as tie
+
+sub-if1 : tie.Need-sub-if1
+sub-if1 c = search needs
+
+returns : tie.Need-returns
+returns c = search needs
+
+slice-aggregate-write-all : tie.Need-slice-aggregate-write-all
+slice-aggregate-write-all c = let start = c .before .before .before .before in sym (length-take-le (start .args .state .put) (start .args .text .now) (start .pre .lines))
+
+write-all-requires : tie.Need-write-all-requires
+write-all-requires c κs = search needs
+
+returns-2 : tie.Need-returns-2
+returns-2 c = search needs
+
+pub flush-spec : {M : Type 1} → statement M
+flush-spec =
+    tie.close (tie.spec sub-if1 returns slice-aggregate-write-all write-all-requires returns-2)

@@ -1,0 +1,354 @@
+#!/usr/bin/env python3
+"""Holds the packing list to host/packing.py [E11]: the same bytes out for the same bytes in, from a file and through a pipe in pieces.
+
+The program is target/bin/packing_list, or what GV_PACKING_LIST names. The mixed records come from a new seed, which is printed;
+GV_SEED repeats one. Prints a line for each part, and ends with status 1 at the first difference.
+"""
+import fcntl
+import itertools
+import os
+import pathlib
+import random
+import struct
+import subprocess
+import sys
+import tempfile
+import termios
+import time
+
+import oracle
+import packing
+import records
+
+ROOT = pathlib.Path(__file__).resolve().parent.parent
+PROGRAM = os.environ.get("GV_PACKING_LIST") or str(ROOT / "target/bin/packing_list")
+SEED = int(os.environ.get("GV_SEED") or random.SystemRandom().getrandbits(32))
+MIXED = 100_000
+LIMIT = 60  # seconds for a run
+BLOCKS = (4096, 65536)
+PIECES = (1, 7, 4095, 2, 65535, 13, 4096, 3, 1021)
+REFUSALS = {1, 2, 5, 6, 7, 9, 10, 11}  # those that a record can get
+
+# The input and the output as document 01 gives them.
+SAMPLE = [
+    bytes.fromhex(line)
+    for line in (
+        "0C 00 01 00 03 02 02 00 00 00 00 00 00 00",
+        "05 00 02 00 03 02 A8",
+        "0C 00 01 00 03 02 05 00 00 00 00 00 00 00",
+        "0C 00 01 00 01 01 00 00 00 00 00 00 00 00",
+    )
+]
+SAMPLE_OUTPUT = b"3 2 2 11010\n3 2 3 10101\nrefused 7 0\n1 1 0 10\n"
+
+
+class Difference(Exception):
+    pass
+
+
+def from_file(data):
+    """What the program writes when its standard input is a file."""
+    with tempfile.TemporaryFile() as file:
+        file.write(data)
+        file.seek(0)
+        done = subprocess.run([PROGRAM], stdin=file, stdout=subprocess.PIPE, timeout=LIMIT)
+    return (done.returncode, done.stdout)
+
+
+def drain(process):
+    """Waits until the program has taken all that the pipe holds, so that its next read meets the next piece alone."""
+    until = time.monotonic() + LIMIT
+    while process.poll() is None and struct.unpack("i", fcntl.ioctl(process.stdin, termios.FIONREAD, bytes(4)))[0]:
+        if time.monotonic() > until:
+            raise Difference("does not read on")
+        time.sleep(0.00002)
+
+
+def deliver(process, data, sizes):
+    """Writes the bytes in pieces of these sizes, over and over. The program may end before all is written."""
+    at = 0
+    try:
+        for size in itertools.cycle(sizes):
+            if at >= len(data):
+                break
+            at += process.stdin.write(data[at : at + size])
+            drain(process)
+        process.stdin.close()
+    except BrokenPipeError:
+        pass
+
+
+def in_pieces(data, sizes=PIECES):
+    """The same through a pipe that delivers in pieces."""
+    with tempfile.TemporaryFile() as file:
+        with subprocess.Popen([PROGRAM], stdin=subprocess.PIPE, stdout=file, bufsize=0) as process:
+            try:
+                deliver(process, data, sizes)
+                status = process.wait(LIMIT)
+            finally:
+                process.kill()
+        file.seek(0)
+        return (status, file.read())
+
+
+def bytewise(data):
+    return in_pieces(data, (1,))
+
+
+def in_two(place):
+    """The way of feeding that delivers the bytes before a place first: the program's block ends there, whatever its size."""
+
+    def feed(data):
+        return in_pieces(data, (place, len(data)))
+
+    feed.__name__ = f"in two pieces, at {place}"
+    return feed
+
+
+def places(data):
+    """Where each record starts for which there is a line."""
+    at, stop = 0, False
+    while at < len(data) and not stop:
+        yield at
+        _, consumed, stop = packing.line_of(data, at)
+        at += consumed
+
+
+def first_difference(data, right, got):
+    """The first line that differs, with its record."""
+    pairs = itertools.zip_longest(places(data), right.split(b"\n"), got.split(b"\n"))
+    for line, (at, want, said) in enumerate(pairs, 1):
+        if want != said:
+            start = len(data) if at is None else at
+            record = f"record at byte {start} of {len(data)}, {data[start : start + 32].hex(' ')}"
+            return f"line {line}, {record}: {want!r} is right, got {said!r}"
+
+
+class Verifier:
+    """Runs inputs, and keeps how many runs there were and which refusals they should meet."""
+
+    def __init__(self):
+        self.runs = 0
+        self.refusals = set()
+
+    def verify(self, name, data, *feeds, right=None):
+        """The program's output for these bytes by each way of feeding them; right is the output where it is known otherwise."""
+        computed = packing.output(data)
+        if right is not None and computed != right:
+            raise Difference(f"{name}: host/packing.py is wrong: {computed!r}")
+        self.refusals |= {int(line.split()[1]) for line in computed.splitlines() if line.startswith(b"refused")}
+        for feed in feeds or (from_file,):
+            self.runs += 1
+            status, got = feed(data)
+            if got != computed:
+                raise Difference(f"{name}, {feed.__name__}: {first_difference(data, computed, got)}")
+            if status != 0:
+                raise Difference(f"{name}, {feed.__name__}: ended with status {status}")
+
+
+def sample(verifier):
+    verifier.verify("sample", b"".join(SAMPLE), from_file, in_pieces, bytewise, right=SAMPLE_OUTPUT)
+    verifier.verify("empty input", b"", from_file, in_pieces, right=b"")
+
+
+def cuts(verifier):
+    """Each record cut at every byte, alone and behind the ones before it; and shorter rests."""
+    for number, record in enumerate(SAMPLE, 1):
+        for length in range(len(record)):
+            verifier.verify(f"record {number} cut to {length}", record[:length])
+            verifier.verify(f"sample cut in record {number} to {length}", b"".join(SAMPLE[: number - 1]) + record[:length])
+    for rest in ("00", "01", "FF", "0100", "0200", "020001", "0400020000", "FC030100", "FD030100", "FFFF"):
+        verifier.verify(f"rest {rest}", bytes.fromhex(rest))
+        verifier.verify(f"sample and rest {rest}", b"".join(SAMPLE) + bytes.fromhex(rest))
+
+
+def body_of(kind, length):
+    """What stands behind a length, zeros but for the kind."""
+    return kind.to_bytes(2, "little") + bytes(length - 2)
+
+
+def limits(verifier):
+    """The longest record and what is longer; behind a 9 nothing is read, whatever stands there."""
+    after = SAMPLE[0] * 200
+    for kind in (0, 1, 2, 3, 65535):
+        longest = packing.framed(body_of(kind, 1020))
+        verifier.verify(f"L = 1020 of kind {kind}", longest + after, from_file, in_pieces)
+        verifier.verify(f"L = 1020 of kind {kind}, cut", longest[:-1])
+        for length in (1021, 1022, 1024, 65535):
+            verifier.verify(f"L = {length} of kind {kind}", SAMPLE[0] + packing.framed(body_of(kind, length)) + after, from_file, in_pieces)
+
+
+def lengths():
+    for kind in (0, 1, 2, 3, 65535):
+        for length in (*range(2, 40), *range(40, 1016, 61), *range(1016, 1021)):
+            yield packing.framed(body_of(kind, length))
+    yield from (packing.framed(bytes([b])) for b in range(4))
+    yield packing.framed(b"")
+
+
+def kinds():
+    for kind in (*range(300), 511, 512, 513, 514, 32769, 32770, 65281, 65535):
+        for record in SAMPLE[:2]:
+            yield record[:2] + kind.to_bytes(2, "little") + record[4:]
+
+
+def pairs_of_counts():
+    """Every t with the s around the bounds, in both kinds, with number 0 or its beats, or all bits 0."""
+    for t in range(256):
+        for s in {0, 1, max(0, t - 1), t, min(255, t + 1), 32, 33, 255}:
+            yield packing.numbered(t, s, 0)
+            yield packing.packed(t, s, [1] * t + [0] * s)
+            yield packing.packed(t, s, [0] * (t + s))
+
+
+def allowed():
+    return ((t, s) for t in range(oracle.LARGEST + 1) for s in range(t + 1))
+
+
+def numbers():
+    """For every pair of counts the numbers at the ends, around the count, and such whose low or high part alone is small."""
+    for t, s in allowed():
+        n = oracle.forms(t, s)
+        for number in (0, 1, n // 2, n - 2, n - 1, n, n + 1, n | 1 << 32, n - 1 | 1 << 56, n - 1 | 1 << 63, 2**63, 2**64 - 1):
+            if number >= 0:
+                yield packing.numbered(t, s, number)
+            if 0 <= number < n:
+                yield packing.packed(t, s, oracle.form_of(t, s, number))
+
+
+def beats():
+    """Every byte for counts of at most eight beats; each bit of the record turned, and each bare beat, for more."""
+    for t, s in allowed():
+        if 1 <= t + s <= 8:
+            for byte in range(256):
+                yield packing.framed(bytes([2, 0, t, s, byte]))
+        if t + s in (9, 15, 16, 33, 63, 64) and s > 2:
+            record = packing.packed(t, s, oracle.form_of(t, s, oracle.forms(t, s) // 3))
+            for bit in range(8 * (len(record) - 6)):
+                yield record[:6] + (int.from_bytes(record[6:], "big") ^ 1 << bit).to_bytes(len(record) - 6, "big")
+            for pairs in range(s):
+                yield packing.packed(t, s, [1, 0] * pairs + [0] + [1] * (t - pairs) + [0] * (s - pairs - 1))
+
+
+def faults_together():
+    """Records with several faults: the order decides."""
+    for length, kind, t, s, fill in itertools.product(
+        (0, 1, 2, 3, 4, 5, 6, 11, 12, 13, 14), (0, 1, 2, 3, 256, 257), (0, 1, 3, 32, 33, 255), (0, 1, 2, 32, 33, 255), (0, 1, 0xA8, 0xFF)
+    ):
+        yield packing.framed((kind.to_bytes(2, "little") + bytes([t, s]) + bytes([fill] * 10))[:length])
+
+
+def corners(verifier):
+    for part in (lengths, kinds, pairs_of_counts, numbers, beats, faults_together):
+        verifier.verify(part.__name__, b"".join(part()))
+
+
+def of_length(length):
+    """A valid record of 6 to 14 bytes."""
+    half = 4 * (length - 6)
+    return packing.packed(half, half, oracle.form_of(half, half, oracle.forms(half, half) // 3))
+
+
+SOME = list(records.stream(7, 200, share=0))
+
+
+def filler(length):
+    """Valid records that together have this length, 6 or more."""
+    some = itertools.cycle(SOME)
+    made = []
+    while length > 28:
+        made.append(next(some))
+        length -= len(made[-1])
+    if length > 14:
+        last = min(14, length - 6)
+        made.append(of_length(length - last))
+        length = last
+    return b"".join(made) + of_length(length)
+
+
+FULL = oracle.forms(32, 32)
+STRADDLERS = {
+    "kind 1": packing.numbered(32, 32, FULL - 1),
+    "kind 2": packing.packed(32, 32, oracle.form_of(32, 32, FULL // 2)),
+    "longest": packing.framed(body_of(1, 1020)),
+}
+BEHIND = b"".join(records.stream(8, 40)) + SAMPLE[0]
+
+
+def block_ends(verifier):
+    """A record that starts at each place around the end of a block of a likely size, and goes on in the next; and one cut there."""
+    for block in BLOCKS:
+        before = filler(block - 1030)
+        for name, record in STRADDLERS.items():
+            far = range(-1024, -1018) if name == "longest" else ()
+            for start in (*far, *range(-20, 3)):
+                data = before + filler(1030 + start) + record + BEHIND
+                verifier.verify(f"{name} from {block}{start:+}", data, from_file, in_pieces)
+        for there in range(15):
+            data = before + filler(1030 - there) + STRADDLERS["kind 1"][:there]
+            verifier.verify(f"kind 1 cut to {there} at {block}", data)
+
+
+def piece_ends(verifier):
+    """A record of which a first read brings each number of bytes, or the bytes one by one."""
+    before = filler(3000)
+    for name, record in STRADDLERS.items():
+        for there in sorted({*range(20), *range(1000, 1026)} & set(range(len(record) + 4))):
+            verifier.verify(f"{name}, {there} bytes at first", before + record + BEHIND, in_two(len(before) + there))
+    for name, record in STRADDLERS.items():
+        verifier.verify(f"{name} by bytes", filler(1500) + record + BEHIND, bytewise)
+
+
+def lines_of_length(length):
+    """Records whose lines together have this length, 8 or more: "t 0 0" and t take-ups is 7 + t long for t up to 9."""
+    made = []
+    while length > 24:
+        made.append(packing.numbered(9, 0, 0))
+        length -= 16
+    if length > 16:
+        made.append(packing.numbered(1, 0, 0))
+        length -= 8
+    return b"".join(made) + packing.numbered(length - 7, 0, 0)
+
+
+def output_ends(verifier):
+    """The longest line at each place around the end of a block of output."""
+    longest = STRADDLERS["kind 1"]
+    width = len(packing.output(longest))
+    for block in BLOCKS:
+        for start in range(-width - 2, 3):
+            before = lines_of_length(block + start)
+            assert len(packing.output(before)) == block + start
+            verifier.verify(f"longest line from {block}{start:+}", before + longest + BEHIND)
+
+
+def mixed(verifier):
+    data = b"".join(records.stream(SEED, MIXED))
+    print(f"{MIXED} mixed records, {len(data)} bytes, GV_SEED={SEED}", flush=True)
+    verifier.verify(f"mixed, GV_SEED={SEED}", data, from_file, in_pieces)
+
+
+def main():
+    if not os.access(PROGRAM, os.X_OK):
+        print(f"there is no {PROGRAM}")
+        return 1
+    verifier = Verifier()
+    for part in (sample, cuts, limits, corners, block_ends, piece_ends, output_ends, mixed):
+        before = verifier.runs
+        try:
+            part(verifier)
+        except Difference as difference:
+            print(difference)
+            return 1
+        except subprocess.TimeoutExpired:
+            print(f"{part.__name__}: no end after {LIMIT} seconds")
+            return 1
+        print(f"{part.__name__}: {verifier.runs - before} runs", flush=True)
+    if verifier.refusals != REFUSALS:
+        print(f"refusals met are {sorted(verifier.refusals)}")
+        return 1
+    return 0
+
+
+if __name__ == "__main__":
+    sys.exit(main())
