@@ -3,6 +3,7 @@ pub mod Walking
 pub mod InGroups
 pub mod Theorems
 pub mod Counting
+pub mod Filling
 pub mod Writing
 pub mod Verdicts
 pub mod Agreement

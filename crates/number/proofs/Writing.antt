@@ -1,59 +1,66 @@
--- From a number to its form, last beat first: one turn of the writing loop, on plain values.
---     Numbered            a list written last beat first is a schedule of p, q, of rank v
---     Behind              what is written from i on, and what is still to be written
---     behind-none         nothing is written yet
---     behind-down         a 0 more
---     behind-up           a 1 more
---     behind-all          at the end it is the form of the number
---     floor-zero, floor-more, floor-some     how the floor is looked up, and what a number below it says
---     lower-last, lower-more                 the number of what stands before the last 1
+-- From a number to its form, last beat first: one turn of the writing loop, on plain values. A place is one in list S, from 1 on.
+--     place-zero, place-more     how the place of a number is found
+--     floor-zero, floor-more     how the floor is looked up
+--     AtPlace                    a list written last beat first is a schedule of p, q, and stands at place k
+--     Behind                     what is written from i on, and what is still to be written
+--     behind-none                nothing is written yet
+--     behind-some                before the last place there is a 0 to be written
+--     floor-some, floor-within, next-within, less-within, one-within     no difference of a turn falls below 0
+--     behind-turn                one beat more
+--     behind-all                 at the last place, with ones and then zeros in front, it is the form of the number
 -- Assumes nothing.
-use mathlib.Core.List.{List, [], _∷_, reverseAux}
-use mathlib.Core.Path.{_≡_, refl, _∙_, ap, ap₂, sym}
+use mathlib.Core.Bool.{Bool, true, false, not, cond}
+use mathlib.Core.List.{List, [], _∷_, _++_, reverseAux}
+use mathlib.Core.Path.{_≡_, refl, _∙_, ap, sym}
 use Prim.Native.Nat.{ℕ, zero, suc, _+_, _-_, _≤_, _<_}
 use native.Mathlib.Decide.{decLe}
-use native.Mathlib.Numerals.{add-one, sub-one}
+use native.Mathlib.Numerals.{sub-one}
 use native.Mathlib.Omega.{arith}
+use borrow.Author.Tests.{ltb-true, ltb-false}
+use mir.Val.{boolByte}
+use lib.Dec.{ltb}
 use lib.ListN.{length, drop, set, length-set}
 use lib.Seq.{drop-length}
 use Rattle.triangle.specs.Count.{N, largest}
-use Rattle.triangle.proofs.Count.{N-add, N-zero, N-over}
+use Rattle.triangle.proofs.Count.{N-add, N-zero, N-over, N-pos}
 use Rattle.schedule.specs.Schedule.{ones, zeros}
-use Rattle.schedule.proofs.Hand.{Turned, start, down, up, ones-turn, zeros-turn, unturned, plays-schedule}
-use Rattle.circle.proofs.Rank.{raise, rank}
-use Rattle.circle.proofs.Circle.{same-rank}
+use Rattle.schedule.proofs.Hand.{Turned, start, down, up, ones-turn, zeros-turn, turned, unturned, schedule-plays, plays-schedule}
+use Rattle.circle.specs.Step.{top}
+use Rattle.circle.proofs.Shape.{ups, downs, shape-join, top-shape, turn-ups, turn-downs}
+use Rattle.circle.proofs.Rank.{raise, rank, rank-below}
+use Rattle.circle.proofs.Advance.{flat, flat-ones, flat-zeros, flat-rank}
+use Rattle.circle.proofs.Circle.{same-rank, top-schedule}
 use Rattle.number.specs.Number.{formOf}
-use Rattle.number.specs.Ranking.{floorOf, Lowered}
+use Rattle.number.specs.Ranking.{floorOf, placeOf}
 use Rattle.number.proofs.Numbers.{form-schedule, form-rank}
+use Rattle.number.proofs.Filling.{written-at}
 
-pub record Numbered (p q v : ℕ) (r : List ℕ) : Type 0 where
-  pub turned : Turned r
-  pub ups : ones r ≡ p
-  pub downs : zeros r ≡ q
-  pub value : rank r ≡ v
+pub place-zero : (m v : ℕ) → v ≡ 0 → m ≡ placeOf m v
+unfolding placeOf
+place-zero m v e = rw e
 
--- whatever list of counts p, q and rank v comes before what is written makes the whole
-pub record Behind (t s n : ℕ) (b : List ℕ) (i p q v : ℕ) : Type 0 where
-  pub left : i ≡ p + q
-  pub within : i ≤ length b
-  pub level : q ≤ p
-  pub small : p ≤ largest
-  pub below : v < N p q
-  pub whole : (r : List ℕ) → Numbered p q v r → Numbered t s n (reverseAux (drop i b) r)
+pub place-more : (m v : ℕ) → ((v ≡ 0) → ⊥) → v ≡ placeOf m v
+unfolding placeOf
+place-more m zero e = absurd (e refl)
+place-more m (suc v) e = refl
 
-pub behind-none : (t s n : ℕ) (b : List ℕ) → t ≤ largest → s ≤ t → length b ≡ t + s → n < N t s → Behind t s n b (length b) t s n
-behind-none t s n b h l e k =
-    record { left = e; within = omega arith; level = l; small = h; below = k; whole = λ r f. rw (drop-length b) f }
+place-some : (m v : ℕ) → v < m → (1 ≤ placeOf m v) × (placeOf m v ≤ m)
+unfolding placeOf
+place-some m zero h = (omega arith, omega arith)
+place-some m (suc v) h = (omega arith, omega arith)
 
-written : (b : List ℕ) (j x : ℕ) → j < length b → drop j (set b j x) ≡ x ∷ drop (suc j) b
-written [] j x h = absurd (omega arith)
-written (y ∷ b) zero x h = refl
-written (y ∷ b) (suc j) x h = written b j x (omega arith)
+place-same : (m v w : ℕ) → v < m → w < m → placeOf m v ≡ placeOf m w → v ≡ w
+unfolding placeOf
+place-same m zero zero h k e = refl
+place-same m zero (suc w) h k e = absurd (omega arith)
+place-same m (suc v) zero h k e = absurd (omega arith)
+place-same m (suc v) (suc w) h k e = e
 
-written-at : (b : List ℕ) (i x : ℕ) → 0 < i → i ≤ length b → drop (i - 1) (set b (i - 1) x) ≡ x ∷ drop i b
-written-at b i x h l =
-    let e : suc (i - 1) ≡ i = omega arith in
-    written b (i - 1) x (omega arith) ∙ ap (λ (k : ℕ). x ∷ drop k b) e
+-- a place before the last is the number
+place-back : (m v k : ℕ) → k < m → placeOf m v ≡ k → v ≡ k
+unfolding placeOf
+place-back m zero k h e = absurd (omega arith)
+place-back m (suc v) k h e = e
 
 pub floor-zero : (p q : ℕ) → q ≡ 0 → 0 ≡ floorOf p q
 unfolding floorOf
@@ -64,91 +71,203 @@ unfolding floorOf
 floor-more p zero e = absurd (e refl)
 floor-more p (suc q) e = rw (sub-one (suc q))
 
-pub floor-some : (p q v : ℕ) → v < floorOf p q → (1 ≤ q) × (v < N p (q - 1))
+count-some : (p q : ℕ) → 0 < N p q → q ≤ p
+count-some p q h = elim (decLe q p) [ yes y ↦ y | no y ↦ absurd (omega (arith, N-over p q (omega arith))) ]
+
+-- the addition rule, for the counts and for their floors
+count-add : (p q : ℕ) → 1 ≤ q → q ≤ p → N p q ≡ N (p - 1) q + floorOf p q
 unfolding floorOf
-floor-some p zero v h = absurd (omega arith)
-floor-some p (suc q) v h = (omega arith, rw (sub-one (suc q)) h)
+count-add zero q h l = absurd (omega arith)
+count-add (suc p) zero h l = absurd (omega arith)
+count-add (suc p) (suc q) h l = rw (sub-one (suc p)) (N-add p q (omega arith))
 
-count-some : (p q w : ℕ) → w < N p q → q ≤ p
-count-some p q w h = elim (decLe q p) [ yes y ↦ y | no y ↦ absurd (omega (arith, N-over p q (omega arith))) ]
+floor-add : (p q : ℕ) → 1 ≤ q → q ≤ p → floorOf p q ≡ N (p - 1) (q - 1) + floorOf p (q - 1)
+unfolding floorOf
+floor-add p zero h l = absurd (omega arith)
+floor-add zero (suc q) h l = absurd (omega arith)
+floor-add (suc p) (suc q) h l = rw (sub-one (suc p), sub-one (suc q)) (by q (omega arith))
+  where
+    by : (q : ℕ) → q ≤ p → floorOf (suc p) (suc q) ≡ N p q + floorOf (suc p) q
+    by zero h = omega (arith, N-zero p, N-zero (suc p))
+    by (suc q) h = N-add p q (omega arith)
 
-module _ {t s n : ℕ} {b : List ℕ} {i p q v : ℕ} (u : Behind t s n b i p q v) (h : 0 < i) where
-  pub behind-down : v < floorOf p q → Behind t s n (set b (i - 1) 0) (i - 1) p (q - 1) v
+-- the rank behind one more 1, by the place before it
+raise-place : (p q v : ℕ) → 1 ≤ q → q ≤ p → raise (suc p) q v + 1 ≡ floorOf (suc p) q + placeOf (N p q) v
+unfolding raise floorOf placeOf
+raise-place p zero v h l = absurd (omega arith)
+raise-place p (suc q) zero h l = omega (arith, N-add p q (omega arith), N-pos (suc p) (suc q) (omega arith))
+raise-place p (suc q) (suc v) h l = omega arith
+
+pub record AtPlace (p q k : ℕ) (r : List ℕ) : Type 0 where
+  pub turned : Turned r
+  pub ups : ones r ≡ p
+  pub downs : zeros r ≡ q
+  pub place : placeOf (N p q) (rank r) ≡ k
+
+-- whatever list of p ones and as many zeros as there is room for, at place k of all, comes before what is written makes the whole
+pub record Behind (t s n : ℕ) (b : List ℕ) (i p k all low : ℕ) : Type 0 where
+  pub down : ℕ
+  pub left : i ≡ p + down
+  pub within : i ≤ length b
+  pub level : down ≤ p
+  pub small : p ≤ largest
+  pub counted : all ≡ N p down
+  pub floored : low ≡ floorOf p down
+  pub first : 1 ≤ k
+  pub last : k ≤ all
+  pub whole : (r : List ℕ) → AtPlace p down k r → AtPlace t s (placeOf (N t s) n) (reverseAux (drop i b) r)
+
+pub behind-none : {t s n : ℕ} (b : List ℕ) → t ≤ largest → s ≤ t → length b ≡ t + s → n < N t s
+    → {all low k : ℕ} → all ≡ N t s → low ≡ floorOf t s → k ≡ placeOf all n
+    → Behind t s n b (length b) t k all low
+behind-none {t} {s} {n} b h l e o a f g =
+    let place = g ∙ ap (λ (m : ℕ). placeOf m n) a in
+    let some = place-some (N t s) n o in
+    record {
+      down = s;
+      left = e;
+      within = omega arith;
+      level = l;
+      small = h;
+      counted = a;
+      floored = f;
+      first = omega (arith, place, some .0);
+      last = omega (arith, place, some .1);
+      whole = λ r w. rw (drop-length b, ← place) w;
+    }
+
+module _ {t s n : ℕ} {b : List ℕ} {i p k all low : ℕ} (u : Behind t s n b i p k all low) (h : (k ≡ all) → ⊥) where
+  pub behind-some : 1 ≤ u .down
+  behind-some = by (u .down) (u .counted)
+    where
+      by : (q : ℕ) → all ≡ N p q → 1 ≤ q
+      by zero e = absurd (h (omega (arith, u .first, u .last, N-zero p)))
+      by (suc q) e = omega arith
+
+  -- the floor is a count that is looked up
+  floor-count : low ≡ N p (u .down - 1)
+  floor-count = u .floored ∙ sym (floor-more p (u .down) (λ e. omega (arith, behind-some)))
+
+  pub floor-some : 1 ≤ low
+  floor-some = omega (arith, floor-count, N-pos p (u .down - 1) (omega (arith, u .level)))
+
+  all-add : all ≡ N (p - 1) (u .down) + low
+  all-add = omega (arith, u .counted, u .floored, count-add p (u .down) behind-some (u .level))
+
+  low-add : low ≡ N (p - 1) (u .down - 1) + floorOf p (u .down - 1)
+  low-add = u .floored ∙ floor-add p (u .down) behind-some (u .level)
+
+  pub floor-within : low ≤ all
+  floor-within = omega (arith, all-add)
+
+  pub next-within : {next : ℕ} → next ≡ N (p - 1) (u .down - 1) → next ≤ low
+  next-within e = omega (arith, low-add)
+
+  pub less-within : (down : Bool) → ltb k low ≡ down → {less : ℕ} → less ≡ cond down 0 (low - 1) → less ≤ k
+  less-within true e l = omega arith
+  less-within false e l = omega (arith, ltb-false k low e)
+
+  pub one-within : (down : Bool) → boolByte (not down) ≤ p
+  one-within true = omega arith
+  one-within false = omega (arith, behind-some, u .level)
+
+  -- the place is also the number
+  own-place : k ≡ placeOf (N p (u .down)) k
+  own-place = place-more (N p (u .down)) k (λ e. omega (arith, u .first))
+
+  behind-down : {p′ k′ all′ low′ : ℕ} → k < low → p′ ≡ p → k′ ≡ k → all′ ≡ low → low′ ≡ floorOf p (u .down - 1)
+      → Behind t s n (set b (i - 1) 0) (i - 1) p′ k′ all′ low′
   unfolding ones zeros rank
-  behind-down k =
-      let f = floor-some p q v k in
+  behind-down l ep ek ea el =
       record {
-        left = omega (arith, u .left);
+        down = u .down - 1;
+        left = omega (arith, u .left, behind-some);
         within = simp length-set (omega (arith, u .within));
         level = omega (arith, u .level);
-        small = u .small;
-        below = f .1;
-        whole = λ r g.
-            rw (written-at b i 0 h (u .within))
+        small = omega (arith, u .small);
+        counted = rw ep (ea ∙ floor-count);
+        floored = rw ep el;
+        first = omega (arith, u .first);
+        last = omega arith;
+        whole = rw (ep, ek) (λ r g.
+            rw (written-at b i 0 (omega (arith, u .left, behind-some)) (u .within))
             (u .whole (0 ∷ r)
             (record {
-              turned = down (omega (arith, u .level, g .ups, g .downs)) (g .turned);
+              turned = down (omega (arith, u .level, behind-some, g .ups, g .downs)) (g .turned);
               ups = g .ups;
-              downs = omega (arith, g .downs);
-              value = g .value;
-            }));
+              downs = omega (arith, behind-some, g .downs);
+              place = rw (place-back (N p (u .down - 1)) (rank r) k (omega (arith, floor-count)) (g .place)) (sym own-place);
+            })));
       }
 
-  pub up-some : 1 ≤ p
-  up-some = omega (arith, u .left, u .level)
-
-  pub behind-up : (w : ℕ) → Lowered p q v w → Behind t s n (set b (i - 1) 1) (i - 1) (p - 1) q w
+  behind-up : {p′ k′ all′ low′ : ℕ} → low ≤ k → p′ ≡ p - 1 → k′ ≡ k - (low - 1) → all′ ≡ all - low
+      → low′ ≡ N (p - 1) (u .down - 1)
+      → Behind t s n (set b (i - 1) 1) (i - 1) p′ k′ all′ low′
   unfolding ones zeros rank
-  behind-up w o =
-      let few = count-some (p - 1) q w (o .below) in
-      let p1 : suc (p - 1) ≡ p = omega (arith, up-some) in
+  behind-up l ep ek ea el =
+      let p1 : suc (p - 1) ≡ p = omega (arith, u .level, behind-some) in
+      let few = count-some (p - 1) (u .down) (omega (arith, all-add, u .last, h)) in
+      let floor = ap (λ (m : ℕ). floorOf m (u .down)) p1 in
       record {
-        left = omega (arith, u .level, u .left);
+        down = u .down;
+        left = omega (arith, u .left, u .level, behind-some);
         within = simp length-set (omega (arith, u .within));
-        level = few;
+        level = rw ep few;
         small = omega (arith, u .small);
-        below = o .below;
-        whole = λ r g.
-            rw (written-at b i 1 h (u .within))
+        counted = rw ep (omega (arith, all-add));
+        floored = rw ep (el ∙ floor-more (p - 1) (u .down) (λ e. omega (arith, behind-some)));
+        first = omega (arith, floor-some);
+        last = omega (arith, floor-some, u .last, h);
+        whole = rw (ep, ek) (λ r g.
+            rw (written-at b i 1 (omega (arith, u .left, behind-some)) (u .within))
             (u .whole (1 ∷ r)
             (record {
               turned = up (g .turned);
-              ups = omega (arith, g .ups, up-some);
+              ups = omega (arith, g .ups, u .level, behind-some);
               downs = g .downs;
-              value = rw (g .ups, g .downs, g .value) (ap (λ (k : ℕ). raise k q w) p1 ∙ o .raises);
-            }));
+              place =
+                  let value : raise (suc (p - 1)) (u .down) (rank r) ≡ k =
+                  omega (arith, raise-place (p - 1) (u .down) (rank r) behind-some few, floor, u .floored, g .place, floor-some) in
+                  rw (g .ups, g .downs, value) (sym own-place);
+            })));
       }
 
-pub behind-all : (t s n : ℕ) (b : List ℕ) (i p q v : ℕ) → i ≤ 0 → s ≤ t → n < N t s → Behind t s n b i p q v → b ≡ formOf t s n
-unfolding ones zeros rank
-behind-all t s n b i p q v h l k u =
-    let p0 : p ≡ 0 = omega (arith, u .left) in
-    let q0 : q ≡ 0 = omega (arith, u .left) in
-    let v0 : v ≡ 0 = omega (arith, u .below, ap₂ N p0 q0, N-zero 0) in
-    let i0 : i ≡ 0 = omega arith in
-    let w = rw i0 at (u .whole [] (record { turned = start; ups = sym p0; downs = sym q0; value = sym v0 })) in
-    let plays = unturned 0 b [] (omega arith) (w .turned) in
-    let form = plays-schedule {t = t} {s = s} plays (omega (arith, ones-turn b [], w .ups)) (omega (arith, zeros-turn b [], w .downs)) in
-    same-rank form (form-schedule l n) (w .value ∙ sym (form-rank l n k))
+  -- the beat is a 0 before the floor
+  pub behind-turn : (down : Bool) → ltb k low ≡ down → {next less all′ low′ : ℕ} → next ≡ N (p - 1) (u .down - 1)
+      → less ≡ cond down 0 (low - 1) → all′ ≡ cond down low (all - low) → low′ ≡ cond down (low - next) next
+      → Behind t s n (set b (i - 1) (boolByte (not down))) (i - 1) (p - boolByte (not down)) (k - less) all′ low′
+  behind-turn true e x el ea ew = behind-down (ltb-true k low e) (omega arith) (omega arith) ea (omega (arith, low-add))
+  behind-turn false e x el ea ew = behind-up (ltb-false k low e) refl (omega arith) ea (ew ∙ x)
 
-last-some : (p q v : ℕ) → q ≤ suc p → floorOf (suc p) q ≤ v → v < N (suc p) q → 0 < N p q
-unfolding floorOf
-last-some p zero v l f k = omega (arith, N-zero p)
-last-some p (suc q) v l f k = omega (arith, N-add p q (omega arith))
+flat-turned : (p q : ℕ) → q ≤ p → Turned (flat p q)
+flat-turned p q h =
+    rw (← turn-ups p (downs q []) [] ∙ turn-downs q [] (ups p []))
+    (turned 0 (ups p (downs q [])) [] (unfold ones zeros in refl) start (rw (top-shape p q) at (schedule-plays (top-schedule p q h))))
 
-more-some : (p q v : ℕ) → q ≤ suc p → floorOf (suc p) q ≤ v → v < N (suc p) q → ((v + 1 ≡ N (suc p) q) → ⊥)
-    → (v - floorOf (suc p) q + 1 < N p q) × (raise (suc p) q (suc (v - floorOf (suc p) q)) ≡ v)
-unfolding floorOf raise
-more-some p zero v l f k e = absurd (e (omega (arith, N-zero (suc p))))
-more-some p (suc q) v l f k e = (omega (arith, N-add p q (omega arith), e), omega arith)
+module _ {t s n : ℕ} {b : List ℕ} {i p k all low : ℕ} (u : Behind t s n b i p k all low) (last : k ≡ all) where
+  -- what is left stands for ones and then zeros
+  front : AtPlace p (u .down) k (flat p (u .down))
+  front =
+      let q = u .down in
+      record {
+        turned = flat-turned p q (u .level);
+        ups = flat-ones p q;
+        downs = flat-zeros p q;
+        place = sym (last ∙ u .counted ∙ place-zero (N p q) (rank (flat p q)) (flat-rank p q));
+      }
 
-pub lower-last : (p q v : ℕ) → 1 ≤ p → q ≤ p → floorOf p q ≤ v → v < N p q → v + 1 ≡ N p q → Lowered p q v 0
-unfolding raise
-lower-last zero q v h l f k e = absurd (omega arith)
-lower-last (suc p) q v h l f k e = record { below = rw (sub-one (suc p)) (last-some p q v l f k); raises = omega arith }
-
-pub lower-more : (p q v : ℕ) → 1 ≤ p → q ≤ p → floorOf p q ≤ v → v < N p q → ((v + 1 ≡ N p q) → ⊥) → Lowered p q v (v - floorOf p q + 1)
-lower-more zero q v h l f k e = absurd (omega arith)
-lower-more (suc p) q v h l f k e =
-    let r = more-some p q v l f k e in
-    record { below = rw (sub-one (suc p)) (r .0); raises = rw (add-one (v - floorOf (suc p) q)) (r .1) }
+  pub behind-all : s ≤ t → n < N t s → {c : List ℕ} → c ≡ top p (i - p) ++ drop i b → c ≡ formOf t s n
+  unfolding ones zeros
+  behind-all l o {c} e =
+      let q = u .down in
+      let room : i - p ≡ q = omega (arith, u .left) in
+      let shape : c ≡ ups p (downs q (drop i b)) =
+      e ∙ ap (λ (m : ℕ). top p m ++ drop i b) room ∙ ap (λ (l : List ℕ). l ++ drop i b) (top-shape p q) ∙ shape-join p q (drop i b) in
+      let turn : reverseAux c [] ≡ reverseAux (drop i b) (flat p q) =
+      ap (λ (l : List ℕ). reverseAux l []) shape ∙ turn-ups p (downs q (drop i b)) [] ∙ turn-downs q (drop i b) (ups p []) in
+      let w = rw (← turn) at (u .whole (flat p q) front) in
+      let plays = unturned 0 c [] (omega arith) (w .turned) in
+      let form = plays-schedule {t = t} {s = s} plays (omega (arith, ones-turn c [], w .ups)) (omega (arith, zeros-turn c [], w .downs)) in
+      let below : rank (reverseAux c []) < N t s = rw (← w .ups, ← w .downs) (rank-below (w .turned)) in
+      let value = place-same (N t s) (rank (reverseAux c [])) n below o (w .place) in
+      same-rank form (form-schedule l n) (value ∙ sym (form-rank l n o))

@@ -1,15 +1,18 @@
 // The number of a form, the form of a number, alone or on a sheet: document 01, "The number" and "Onto
 // the sheet". They work from the beats and the table of counts, and not by walking the circle [M8]. The
 // contracts of the public functions cite specs/Answers; proofs/Theorems says what a number is.
+ghost use mathlib.Core.Bool.{cond};
+ghost use mathlib.Core.List.{_++_};
 ghost use mathlib.Core.Path.{_≡_};
 ghost use Prim.Native.Nat.{_+_, _-_, _*_, _≤_, _<_};
-ghost use lib.ListN.{length};
+ghost use lib.ListN.{length, drop};
 ghost use Rattle.refusal.specs.Order.{judge};
 ghost use Rattle.triangle.specs.Count.{N, largest};
 ghost use Rattle.schedule.specs.Schedule.{Schedule};
+ghost use Rattle.circle.specs.Step.{top};
 ghost use Rattle.number.specs.Number.{numberOf, formOf};
 ghost use Rattle.number.specs.Answers.{numberAnswer, numberRows, formVerdict, formLeft, sheetVerdict, sheetLeft};
-ghost use Rattle.number.specs.Ranking.{Lowered, floorOf};
+ghost use Rattle.number.specs.Ranking.{floorOf, placeOf};
 use refusal::Answer;
 use refusal::Refusal;
 use refusal::Verdict;
@@ -54,7 +57,14 @@ fn place(t: u64, s: u64, beats: &[u8]) -> u64
     number
 }
 
-// N(p, q−1), and 0 for q = 0: the forms of p, q with a smaller number end in a 0.
+// The place in list S of the form of a number, from 1 on: ones and then zeros close the list.
+fn listed(number: u64, all: u64) -> u64
+    ensures { λ r. ⌜ r ≡ placeOf all number ⌝ }
+{
+    if number == 0 { all } else { number }
+}
+
+// N(p, q−1), and 0 for q = 0: the forms of p, q before that place end in a 0.
 fn floor(p: u64, q: u64) -> u64
     requires { ⌜ p ≤ largest ⌝ }
     ensures { λ r. ⌜ r ≡ floorOf p q ⌝ }
@@ -62,39 +72,49 @@ fn floor(p: u64, q: u64) -> u64
     if q == 0 { 0 } else { triangle::forms(p, q - 1) }
 }
 
-// The number of what stands before the last 1 of a form of p, q and number v; low is their floor.
-fn lower(p: u64, q: u64, low: u64, v: u64) -> u64
-    requires { ⌜ (1 ≤ p) × (p ≤ largest) × (q ≤ p) × (low ≡ floorOf p q) × (low ≤ v) × (v < N p q) ⌝ }
-    ensures { λ r. ⌜ Lowered p q v r ⌝ }
+// One of two values, by a test of a beat. It compiles to no jump, which could not be predicted.
+fn pick(test: bool, then: u64, other: u64) -> u64
+    ensures { λ r. ⌜ r ≡ cond test then other ⌝ }
 {
-    if v + 1 == triangle::forms(p, q) {
-        0
-    } else {
-        v - low + 1
+    if test { then } else { other }
+}
+
+// Writes p ones and then zeros before a place.
+fn front(p: u64, until: usize, out: &mut [u8])
+    requires { ⌜ (p ≤ until) × (until ≤ length (now out)) ⌝ }
+    ensures { λ r. ⌜ now (out .exit) ≡ top p (until - p) ++ drop until (now (out .entry)) ⌝ }
+{
+    let mut at = until;
+    while 0 < at {
+        at -= 1;
+        out[at] = ((at as u64) < p) as u8;
     }
 }
 
-// Writes the form of a number, from its last beat to its first.
+// Writes the form of a number, from its last beat to its first. At a turn the beats before at, p of them
+// ones, stand at place k of all the places of their list S, and end in a 0 exactly if k is below low.
+// The next low is one of two counts that add up to low, and one of these is looked up before the beat is
+// known, so that no beat waits for a look-up.
 fn write(t: u64, s: u64, number: u64, out: &mut [u8])
     requires { ⌜ (t ≤ largest) × (s ≤ t) × (length (now out) ≡ t + s) × (number < N t s) ⌝ }
     ensures { λ r. ⌜ now (out .exit) ≡ formOf t s number ⌝ }
 {
     let mut at = out.len();
     let mut p = t;
-    let mut q = s;
-    let mut v = number;
-    while 0 < at {
+    let mut all = triangle::forms(t, s);
+    let mut low = floor(t, s);
+    let mut k = listed(number, all);
+    while k != all {
         at -= 1;
-        let low = floor(p, q);
-        if v < low {
-            out[at] = 0;
-            q -= 1;
-        } else {
-            out[at] = 1;
-            v = lower(p, q, low, v);
-            p -= 1;
-        }
+        let next = triangle::forms(p - 1, at as u64 - p);
+        let down = k < low;
+        out[at] = !down as u8;
+        k -= pick(down, 0, low - 1);
+        all = pick(down, low, all - low);
+        low = pick(down, low - next, next);
+        p -= !down as u64;
     }
+    front(p, at, out);
 }
 
 // Whether the counts have a form of that number. Refuses 1, 2, then 7.

@@ -1,81 +1,137 @@
--- `number::write` meets its contract: each turn writes one beat more of the form, from the last on. Assumes nothing.
-use mathlib.Core.Path.{_≡_, refl, _∙_}
-use Prim.Native.Nat.{_-_, _<_}
+-- `number::write` meets its contract: each turn writes one beat more of the form, from the last on, until what is left is ones and then
+-- zeros. Assumes nothing.
+use mathlib.Core.Bool.{not}
+use mathlib.Core.Path.{_≡_, refl, _∙_, ap}
+use Prim.Native.Nat.{ℕ, _-_, _≤_}
 use native.Mathlib.Omega.{arith}
 use borrow.Author.Needs.{needs}
+use mir.Val.{boolByte}
+use lib.Dec.{ltb}
 use lib.ListN.{length, length-set}
-use Rattle.number.specs.Ranking.{floorOf}
-use Rattle.number.proofs.Writing.{Behind, behind-none, behind-down, behind-up, behind-all, up-some, floor-some}
+use Rattle.triangle.specs.Count.{N}
+use Rattle.counts.proofs.Sizes.{counted-N}
+use Rattle.number.proofs.Writing.{Behind, behind-none, behind-some, floor-some, floor-within, next-within, less-within, one-within, behind-turn, behind-all}
 use Rattle.number.proofs.write.Statement.{statement}
 use Rattle.number.proofs.write.Tie as tie
 
 abbrev Inv-loop : tie.InvT-loop
-Inv-loop t s number out₀ at₀ p₀ q₀ v₀ out at p q v = (length out ≡ length out₀) × Behind t s number out at p q v
+Inv-loop t s number out₀ at₀ p₀ all₀ low₀ k₀ out at p all low k = (length out ≡ length out₀) × Behind t s number out at p k all low
 
 abbrev μ-loop : tie.MeasureT-loop
-μ-loop t s number out₀ at₀ p₀ q₀ v₀ out at p q v = at
+μ-loop t s number out₀ at₀ p₀ all₀ low₀ k₀ out at p all low k = at
+
+forms-requires : tie.Need-forms-requires Inv-loop μ-loop
+forms-requires c κs = search needs
+
+floor-requires : tie.Need-floor-requires Inv-loop μ-loop
+floor-requires c κs = search needs
+
+listed-requires : tie.Need-listed-requires Inv-loop μ-loop
+listed-requires c κs = search needs
 
 loop-holds : tie.Need-loop-holds Inv-loop μ-loop
 loop-holds c =
-    let start = c .before in
+    let looked = c .before .before in
+    let start = looked .before .before in
     let args = start .args in
-    (refl, behind-none (args .t) (args .s) (args .number) (args .out .now) (start .pre .0) (start .pre .1) (start .pre .2) (start .pre .3))
+    let pre = start .pre in
+    let count = looked .forms .ensures ∙ counted-N (args .t) (args .s) (pre .0) in
+    (refl, behind-none (args .out .now) (pre .0) (pre .1) (pre .2) (pre .3) count (c .before .floor .ensures) (c .listed .ensures))
+
+-- at a turn there is a 0 left
+some : (c : tie.In-loop Inv-loop μ-loop) → 1 ≤ c .before .loop .inv .1 .down
+some c = behind-some (c .before .loop .inv .1) (c .loop-test .taken)
 
 sub-at : tie.Need-sub-at Inv-loop μ-loop
-sub-at c = search needs
+sub-at c = omega (arith, c .before .loop .inv .1 .left, some c)
 
-floor-requires : tie.Need-floor-requires Inv-loop μ-loop
-floor-requires c κs = c .before .loop .inv .1 .small
+sub-forms : tie.Need-sub-forms Inv-loop μ-loop
+sub-forms c = omega (arith, c .before .loop .inv .1 .level, some c)
+
+sub-forms-2 : tie.Need-sub-forms-2 Inv-loop μ-loop
+sub-forms-2 c = omega (arith, c .before .loop .inv .1 .left, some c)
+
+forms-requires-2 : tie.Need-forms-requires-2 Inv-loop μ-loop
+forms-requires-2 c κs = search needs
+
+-- what is looked up at a turn
+next : (c : tie.After-forms2 Inv-loop μ-loop) → let here = c .before .before .loop in c .forms2 .result ≡ N (here .p - 1) (here .inv .1 .down - 1)
+next c =
+    let here = c .before .before .loop in
+    let u = here .inv .1 in
+    let room : here .at - 1 - here .p ≡ u .down - 1 = omega (arith, u .left) in
+    c .forms2 .ensures ∙ counted-N (here .p - 1) (here .at - 1 - here .p) (omega (arith, u .small)) ∙ ap (λ (q : ℕ). N (here .p - 1) q) room
+
+cast-out : tie.Need-cast-out Inv-loop μ-loop
+cast-out c = search needs
 
 slice-write-out : tie.Need-slice-write-out Inv-loop μ-loop
-slice-write-out c = let here = c .before .before in omega (arith, here .before .loop .inv .1 .within, here .loop-test .taken)
+slice-write-out c = let u = c .before .before .loop .inv .1 in omega (arith, u .within, u .left, some (c .before))
 
--- the number is below the floor
-below : (c : tie.Then1 Inv-loop μ-loop) → let here = c .before .before .before .loop in here .v < floorOf (here .p) (here .q)
-below c = omega (arith, c .before .floor .ensures, c .if1 .taken)
+sub-pick : tie.Need-sub-pick Inv-loop μ-loop
+sub-pick c = floor-some (c .before .before .loop .inv .1) (c .before .loop-test .taken)
 
-sub-q : tie.Need-sub-q Inv-loop μ-loop
-sub-q c = let here = c .before .before .before .loop in floor-some (here .p) (here .q) (here .v) (below c) .0
+pick-requires : tie.Need-pick-requires Inv-loop μ-loop
+pick-requires c κs = search needs
+
+sub-k : tie.Need-sub-k Inv-loop μ-loop
+sub-k c =
+    let turn = c .before .before in
+    less-within (turn .before .loop .inv .1) (turn .loop-test .taken) _ refl (c .pick .ensures)
+
+sub-pick-2 : tie.Need-sub-pick-2 Inv-loop μ-loop
+sub-pick-2 c = let turn = c .before .before in floor-within (turn .before .loop .inv .1) (turn .loop-test .taken)
+
+pick-requires-2 : tie.Need-pick-requires-2 Inv-loop μ-loop
+pick-requires-2 c κs = search needs
+
+sub-pick-3 : tie.Need-sub-pick-3 Inv-loop μ-loop
+sub-pick-3 c =
+    let looked = c .before .before in
+    next-within (looked .before .before .loop .inv .1) (looked .before .loop-test .taken) (next looked)
+
+pick-requires-3 : tie.Need-pick-requires-3 Inv-loop μ-loop
+pick-requires-3 c κs = search needs
+
+cast-p : tie.Need-cast-p Inv-loop μ-loop
+cast-p c = search needs
+
+sub-p : tie.Need-sub-p Inv-loop μ-loop
+sub-p c =
+    let turn = c .before .before .before .before in
+    let here = turn .before .loop in
+    one-within (here .inv .1) (turn .loop-test .taken) (ltb (here .k) (here .low))
 
 loop-less : tie.Need-loop-less Inv-loop μ-loop
-loop-less c = search needs
+loop-less c =
+    let turn = c .before .before .before .before in
+    omega (arith, turn .before .loop .inv .1 .left, some turn)
 
 loop-again : tie.Need-loop-again Inv-loop μ-loop
 loop-again c =
-    let inside = c .before .before in
-    let here = inside .before .loop in
-    (length-set (here .out) (here .at - 1) 0 ∙ here .inv .0, behind-down (here .inv .1) (inside .loop-test .taken) (below c))
+    let looked = c .before .before .before in
+    let turn = looked .before in
+    let here = turn .before .loop in (
+      length-set (here .out) (here .at - 1) (boolByte (not (ltb (here .k) (here .low)))) ∙ here .inv .0,
+      behind-turn (here .inv .1) (turn .loop-test .taken) (ltb (here .k) (here .low)) refl (next looked)
+          (c .before .before .pick .ensures) (c .before .pick2 .ensures) (c .pick3 .ensures),
+    )
 
-slice-write-out-2 : tie.Need-slice-write-out-2 Inv-loop μ-loop
-slice-write-out-2 c = let here = c .before .before in omega (arith, here .before .loop .inv .1 .within, here .loop-test .taken)
-
-lower-requires : tie.Need-lower-requires Inv-loop μ-loop
-lower-requires c κs =
-    let inside = c .before .before in
-    let u = inside .before .loop .inv .1 in
-    (up-some u (inside .loop-test .taken), u .small, u .level, c .before .floor .ensures, c .if1 .left, u .below)
-
-sub-p : tie.Need-sub-p Inv-loop μ-loop
-sub-p c = let inside = c .before .before .before in up-some (inside .before .loop .inv .1) (inside .loop-test .taken)
-
-loop-less-2 : tie.Need-loop-less-2 Inv-loop μ-loop
-loop-less-2 c = search needs
-
-loop-again-2 : tie.Need-loop-again-2 Inv-loop μ-loop
-loop-again-2 c =
-    let inside = c .before .before .before in
-    let here = inside .before .loop in
-    (length-set (here .out) (here .at - 1) 1 ∙ here .inv .0, behind-up (here .inv .1) (inside .loop-test .taken) (c .lower .result) (c .lower .ensures))
+front-requires : tie.Need-front-requires Inv-loop μ-loop
+front-requires c κs = let u = c .before .before .loop .inv .1 in (omega (arith, u .left), u .within)
 
 same-length : tie.Need-same-length Inv-loop μ-loop
-same-length c = c .before .loop .inv .0
+same-length c =
+    let filled = c .before .before in
+    filled .front .kept .1 .1 .0 ∙ filled .before .before .before .loop .inv .0
 
 returns : tie.Need-returns Inv-loop μ-loop
 returns c =
-    let here = c .before .loop in
-    let start = c .before .before .before in
-    let args = start .args in
-    behind-all (args .t) (args .s) (args .number) (here .out) (here .at) (here .p) (here .q) (here .v) (c .loop-test .left) (start .pre .1) (start .pre .3) (here .inv .1)
+    let filled = c .before .before in
+    let done = filled .before .before in
+    let here = done .before .loop in
+    let start = done .before .before .before .before .before .before in
+    behind-all (here .inv .1) (done .loop-test .left) (start .pre .1) (start .pre .3) (filled .front .ensures)
 
 pub write-spec : {M : Type 1} → statement M
 write-spec =
@@ -83,17 +139,27 @@ write-spec =
     (tie.spec
     Inv-loop
     μ-loop
+    forms-requires
+    floor-requires
+    listed-requires
     loop-holds
     sub-at
-    floor-requires
+    sub-forms
+    sub-forms-2
+    forms-requires-2
+    cast-out
     slice-write-out
-    sub-q
+    sub-pick
+    pick-requires
+    sub-k
+    sub-pick-2
+    pick-requires-2
+    sub-pick-3
+    pick-requires-3
+    cast-p
+    sub-p
     loop-less
     loop-again
-    slice-write-out-2
-    lower-requires
-    sub-p
-    loop-less-2
-    loop-again-2
+    front-requires
     same-length
     returns)
