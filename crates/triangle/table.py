@@ -1,7 +1,8 @@
 #!/usr/bin/env python3
 """Writes the table of counts, src/table.rt and specs/Table.antt, from the addition rule of document 01.
 
-The largest count is read from specs/Count.antt, the one place that names it.
+The largest count is read from specs/Count.antt, the one place that names it. The look-up has the counts with s up to t row after
+row, in three parts of whole rows, since a match of all of them is more than one function's check takes.
   table.py           writes the two files
   table.py --check   exits with 1 where a file is not what would be written
 """
@@ -24,10 +25,25 @@ def triangle():
     return rows
 
 
+def start(t):
+    """How many counts with s up to t the rows before row t have."""
+    return t * (t + 1) // 2
+
+
+def parts(rows):
+    """The three parts of about as many counts: name, first row, and the rows up to s = t."""
+    cuts = [min(range(SIZE), key=lambda t: abs(3 * start(t) - k * start(SIZE))) for k in range(3)] + [SIZE]
+    return [
+        (name, low, [rows[t][: t + 1] for t in range(low, high)])
+        for name, low, high in zip(("low", "middle", "high"), cuts, cuts[1:])
+    ]
+
+
 def rattle(rows):
     out = ["// The counts N(t, s), a row for each t: the table, and the look-up that reads no table."]
     out += ["// Written by table.py from the largest count in specs/Count.antt; not edited by hand."]
-    out += ["ghost use mathlib.Core.Path.{_≡_};", "ghost use Rattle.triangle.specs.Table.{at};", ""]
+    out += ["ghost use mathlib.Core.Path.{_≡_};", "ghost use lib.ListN.{getD};"]
+    out += ["ghost use Rattle.triangle.specs.Table.{at, low, middle, high};", ""]
     out += ["// The largest number of tasks that a schedule takes up.", f"pub const LARGEST: u64 = {LARGEST};", ""]
     out += ["// One row for each t from 0 to LARGEST, each row with LARGEST + 1 counts, zeros past s = t."]
     out += [f"const FORMS: [[u64; {SIZE}]; {SIZE}] = ["]
@@ -38,25 +54,38 @@ def rattle(rows):
     out += ["fn listed(t: u64, s: u64) -> u64", "    ensures { λ r. ⌜ r ≡ at t s ⌝ }", "{"]
     out += ["    if LARGEST < t {", "        return 0;", "    }", "    if LARGEST < s {", "        return 0;", "    }"]
     out += ["    FORMS[t as usize][s as usize]", "}", ""]
-    for t, row in enumerate(rows):
-        out += [f"fn row{t}(s: u64) -> u64", f"    ensures {{ λ r. ⌜ r ≡ at {t} s ⌝ }}", "{", "    match s {"]
-        out += [f"        {s} => {row[s]}," for s in range(t + 1)]
-        out += [f"        _ => listed({t}, s),", "    }", "}", ""]
-    out += ["// The table's entry, by a match whose arms are literals: one load from read-only memory."]
-    out += ["pub fn entry(t: u64, s: u64) -> u64", "    ensures { λ r. ⌜ r ≡ at t s ⌝ }", "{", "    match t {"]
-    out += [f"        {t} => row{t}(s)," for t in range(SIZE)]
-    out += ["        _ => listed(t, s),", "    }", "}"]
+    for name, first, part in parts(rows):
+        counts = [n for row in part for n in row]
+        out += [f"// The entry at t, s, which stands at i among the counts with s up to t from row {first} on."]
+        out += [f"fn in_{name}(t: u64, s: u64, i: u64) -> u64", f"    requires {{ ⌜ at t s ≡ getD {name} i 0 ⌝ }}"]
+        out += [f"    ensures {{ λ r. ⌜ r ≡ getD {name} i 0 ⌝ }}", "{", "    match i {"]
+        out += [f"        {i} => {n}," for i, n in enumerate(counts)]
+        out += ["        _ => listed(t, s),", "    }", "}", ""]
+    (_, middle, _), (_, high, _) = parts(rows)[1:]
+    out += ["// The table's entry, by matches whose arms are literals: one load from read-only memory."]
+    out += ["pub fn entry(t: u64, s: u64) -> u64", "    ensures { λ r. ⌜ r ≡ at t s ⌝ }", "{"]
+    out += ["    if LARGEST < t {", "        return 0;", "    }", "    if t < s {", "        return 0;", "    }"]
+    out += ["    let i = t * (t + 1) / 2 + s;", f"    if t < {middle} {{", "        return in_low(t, s, i);", "    }"]
+    out += [f"    if t < {high} {{", f"        return in_middle(t, s, i - {start(middle)});", "    }"]
+    out += [f"    in_high(t, s, i - {start(high)})", "}"]
     return "\n".join(out) + "\n"
 
 
 def antt(rows):
     out = ["-- The table of counts as a list of rows: what the array of src/table.rt holds. Written by table.py; not edited by hand."]
-    out += ["-- proofs/Table.antt proves that its entries are N(t, s), so nothing here has to be believed. Definitions only."]
+    out += ["-- proofs/Rule.antt proves that its entries are N(t, s), so nothing here has to be believed. Definitions only."]
     out += ["use mathlib.Core.List.{List, [], _∷_}", "use Prim.Native.Nat.{ℕ}", "use lib.ListN.{getD}", ""]
     out += ["abbrev pub table : List (List ℕ)", "table ="]
     out += ["    (" + " ∷ ".join(str(n) for n in row) + " ∷ []) ∷" for row in rows]
     out[-1] += " []"
     out += ["", "-- the entry in row t and column s, and 0 outside the table", "abbrev pub at : ℕ → ℕ → ℕ", "at t s = getD (getD table t []) s 0"]
+    out += ["", "-- the counts with s up to t, row after row: what the look-up's three parts hold"]
+    for name, _, part in parts(rows):
+        out += ["", f"abbrev pub {name} : List ℕ", f"{name} ="]
+        out += ["    " + " ∷ ".join(str(n) for n in row) + " ∷" for row in part]
+        out[-1] += " []"
+    for name, first, _ in parts(rows)[1:]:
+        out += ["", f"-- the row that {name} starts with", f"abbrev pub {name}Row : ℕ", f"{name}Row = {first}"]
     return "\n".join(out) + "\n"
 
 

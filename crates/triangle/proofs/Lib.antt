@@ -1,4 +1,5 @@
 pub mod Count
 pub mod Binomial
 pub mod Rule
+pub mod Parts
 pub mod Theorems
