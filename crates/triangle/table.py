@@ -42,7 +42,8 @@ def parts(rows):
 def rattle(rows):
     out = ["// The counts N(t, s), a row for each t: the table, and the look-up that reads no table."]
     out += ["// Written by table.py from the largest count in specs/Count.antt; not edited by hand."]
-    out += ["ghost use mathlib.Core.Path.{_≡_};", "ghost use lib.ListN.{getD};"]
+    out += ["ghost use mathlib.Core.Path.{_≡_};", "ghost use Prim.Native.Nat.{_≤_};", "ghost use lib.ListN.{getD};"]
+    out += ["ghost use Rattle.triangle.specs.Count.{largest};"]
     out += ["ghost use Rattle.triangle.specs.Table.{at, low, middle, high};", ""]
     out += ["// The largest number of tasks that a schedule takes up.", f"pub const LARGEST: u64 = {LARGEST};", ""]
     out += ["// One row for each t from 0 to LARGEST, each row with LARGEST + 1 counts, zeros past s = t."]
@@ -62,12 +63,16 @@ def rattle(rows):
         out += [f"        {i} => {n}," for i, n in enumerate(counts)]
         out += ["        _ => listed(t, s),", "    }", "}", ""]
     (_, middle, _), (_, high, _) = parts(rows)[1:]
-    out += ["// The table's entry, by matches whose arms are literals: one load from read-only memory."]
+    out += ["// The entry with s up to t, by matches whose arms are literals: one load from read-only memory."]
+    out += ["pub fn inside(t: u64, s: u64) -> u64", "    requires { ⌜ (t ≤ largest) × (s ≤ t) ⌝ }"]
+    out += ["    ensures { λ r. ⌜ r ≡ at t s ⌝ }", "{", "    let i = t * (t + 1) / 2 + s;"]
+    out += [f"    if i < {start(middle)} {{", "        return in_low(t, s, i);", "    }"]
+    out += [f"    if i < {start(high)} {{", f"        return in_middle(t, s, i - {start(middle)});", "    }"]
+    out += [f"    in_high(t, s, i - {start(high)})", "}", ""]
+    out += ["// The table's entry, and 0 outside the table and past s = t."]
     out += ["pub fn entry(t: u64, s: u64) -> u64", "    ensures { λ r. ⌜ r ≡ at t s ⌝ }", "{"]
     out += ["    if LARGEST < t {", "        return 0;", "    }", "    if t < s {", "        return 0;", "    }"]
-    out += ["    let i = t * (t + 1) / 2 + s;", f"    if t < {middle} {{", "        return in_low(t, s, i);", "    }"]
-    out += [f"    if t < {high} {{", f"        return in_middle(t, s, i - {start(middle)});", "    }"]
-    out += [f"    in_high(t, s, i - {start(high)})", "}"]
+    out += ["    inside(t, s)", "}"]
     return "\n".join(out) + "\n"
 
 

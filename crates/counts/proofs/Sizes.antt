@@ -1,17 +1,16 @@
 -- The verdict on a pair of counts, case by case.
 --     too-many, more-down, allowed-counts     the three verdicts, each from what holds of the counts
 --     counts-allowed                          an accepted pair has t up to the largest count and s up to t
---     counted-N                               the table's answer for such a pair is N(t, s)
 -- Assumes nothing.
 use mathlib.Core.Path.{_≡_, refl}
 use Prim.Native.Nat.{ℕ, _≤_, _<_}
-use borrow.Author.Tests.{lt-ltb, le-ltb, le-leb, ltb-false}
+use borrow.Author.Tests.{lt-ltb, le-ltb, ltb-false}
 use lib.Dec.{ltb}
 use Rattle.refusal.specs.declared.Verdict.{Verdict}
 use Rattle.refusal.specs.declared.Refusal.the-variants.{TooManyTasks, MoreDownThanUp}
 use Rattle.refusal.specs.Order.{judge, _⇒_}
 use Rattle.refusal.proofs.Theorems.{accepted-none}
-use Rattle.triangle.specs.Count.{N, counted, largest}
+use Rattle.triangle.specs.Count.{largest}
 use Rattle.counts.specs.Counts.{Allowed, countRows}
 use mathlib.Core.List.{List·Memᴰ·head, List·Memᴰ·tail}
 
@@ -29,7 +28,3 @@ counts-allowed t s e = (
   ltb-false largest t (accepted-none (countRows t s) e (ltb largest t ⇒ TooManyTasks) (List·Memᴰ·head refl)),
   ltb-false t s (accepted-none (countRows t s) e (ltb t s ⇒ MoreDownThanUp) (List·Memᴰ·tail (List·Memᴰ·head refl))),
 )
-
-pub counted-N : (t s : ℕ) → t ≤ largest → counted t s ≡ N t s
-unfolding counted
-counted-N t s h = simp (le-leb t largest h)

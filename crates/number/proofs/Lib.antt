@@ -2,6 +2,7 @@ pub mod Numbers
 pub mod Walking
 pub mod InGroups
 pub mod Theorems
+pub mod Rising
 pub mod Counting
 pub mod Filling
 pub mod Writing

@@ -1,8 +1,29 @@
--- Parts of the way from a number to its form, for the contracts of private functions. Nothing here has to be believed. Definitions only.
---     placeOf m v      the place of number v in a list S of m forms, from 1 on: number 0 closes the list
---     floorOf p q      the forms of p, q at places before it end in a 0: N(p, q−1), and 0 for q = 0
-use Prim.Native.Nat.{ℕ, zero, suc}
-use Rattle.triangle.specs.Count.{N}
+-- Parts of the ways between a form and its number, for the contracts of private functions. Nothing here has to be believed. Definitions only.
+--     isSized t s b            the counts are allowed, and the beats are as many as they say
+--     goesOn t p q beat        the beat may stand behind p ones and q zeros of a schedule of t ones
+--     Ranks t s b whole n      whole exactly if b is a schedule of allowed counts, and then n is its number
+--     placeOf m v              the place of number v in a list S of m forms, from 1 on: number 0 closes the list
+--     floorOf p q              the forms of p, q at places before it end in a 0: N(p, q−1), and 0 for q = 0
+use mathlib.Core.Bool.{Bool, true, false, _&&_}
+use mathlib.Core.List.{List}
+use mathlib.Core.Path.{_≡_}
+use Prim.Native.Nat.{ℕ, zero, suc, _+_}
+use lib.Dec.{eqb, leb, ltb}
+use lib.ListN.{length}
+use Rattle.triangle.specs.Count.{N, largest}
+use Rattle.counts.specs.Counts.{Allowed}
+use Rattle.schedule.specs.Schedule.{Schedule}
+use Rattle.number.specs.Number.{numberOf}
+
+abbrev pub isSized : ℕ → ℕ → List ℕ → Bool
+isSized t s b = leb t largest && leb s t && eqb (length b) (t + s)
+
+abbrev pub goesOn : ℕ → ℕ → ℕ → ℕ → Bool
+goesOn t p q beat = leb beat 1 && leb (p + beat) t && ltb q (p + beat)
+
+abbrev pub Ranks : ℕ → ℕ → List ℕ → Bool → ℕ → Type 0
+Ranks t s b true n = Allowed t s × Schedule t s b × (n ≡ numberOf t s b)
+Ranks t s b false n = Allowed t s → Schedule t s b → ⊥
 
 unfoldable pub placeOf : ℕ → ℕ → ℕ
 placeOf m zero = m

@@ -2,7 +2,7 @@
 ghost use mathlib.Core.Path.{_≡_};
 ghost use Prim.Native.Nat.{_+_, _≤_};
 ghost use lib.ListN.{length};
-ghost use Rattle.triangle.specs.Count.{largest};
+ghost use Rattle.triangle.specs.Count.{largest, Counts};
 ghost use Rattle.packing.specs.Listed.{widest, Listed};
 use record::Reading;
 
@@ -19,11 +19,11 @@ pub struct Printed {
 }
 
 // Writes the line of a record, whose beats go into the room.
-fn list_with(src: &[u8], room: &mut [u8], out: &mut [u8]) -> Printed
-    requires { ⌜ (length (now room) ≡ largest + largest) × (widest ≤ length (now out)) ⌝ }
+fn list_with(counts: &[u64], src: &[u8], room: &mut [u8], out: &mut [u8]) -> Printed
+    requires { ⌜ Counts (now counts) × (length (now room) ≡ largest + largest) × (widest ≤ length (now out)) ⌝ }
     ensures { λ r. ⌜ Listed (now (src .entry)) (now (out .entry)) (r .consumed) (r .bytes) (r .last) (now (out .exit)) ⌝ }
 {
-    let reading = record::read(src, room);
+    let reading = record::read_by(counts, src, room);
     match reading {
         Reading::Order(order) => {
             let n = (order.t + order.s) as usize;
@@ -47,8 +47,9 @@ fn list_with(src: &[u8], room: &mut [u8], out: &mut [u8]) -> Printed
 }
 
 // Writes the line of the record that a slice starts with at the start of the lent bytes, leaving the others;
-// nothing where there are fewer than WIDEST.
-pub fn list(src: &[u8], out: &mut [u8]) -> Printed
+// nothing where there are fewer than WIDEST. The caller keeps the list of counts, made once for all records.
+pub fn list(counts: &[u64], src: &[u8], out: &mut [u8]) -> Printed
+    requires { ⌜ Counts (now counts) ⌝ }
     ensures { λ r. ⌜ Listed (now (src .entry)) (now (out .entry)) (r .consumed) (r .bytes) (r .last) (now (out .exit)) ⌝ }
 {
     if out.len() < WIDEST {
@@ -59,5 +60,5 @@ pub fn list(src: &[u8], out: &mut [u8]) -> Printed
         };
     }
     let mut room = [0u8; BEATS];
-    list_with(src, &mut room, out)
+    list_with(counts, src, &mut room, out)
 }

@@ -5,6 +5,7 @@
 ghost use mathlib.Core.Path.{_≡_};
 ghost use Prim.Native.Nat.{_+_, _≤_, _<_};
 ghost use lib.ListN.{length, take, drop};
+ghost use Rattle.triangle.specs.Count.{Counts};
 ghost use Rattle.packing_list.specs.Window.{Inside};
 use libc::STDIN_FILENO;
 use libc::STDOUT_FILENO;
@@ -71,8 +72,8 @@ fn flush(text: &[u8], input: &[u8], state: State) -> State
 }
 
 // Lists the next record; the list ends where there is none, and behind a 9.
-fn print(input: &[u8], text: &mut [u8], state: State) -> State
-    requires { ⌜ Inside (now input) (now text) state ⌝ }
+fn print(counts: &[u64], input: &[u8], text: &mut [u8], state: State) -> State
+    requires { ⌜ Counts (now counts) × Inside (now input) (now text) state ⌝ }
     ensures { λ r. ⌜ Inside (now (input .entry)) (now (text .exit)) r ⌝ }
 {
     let at = state.at;
@@ -87,7 +88,7 @@ fn print(input: &[u8], text: &mut [u8], state: State) -> State
         };
     }
     let put = state.put;
-    let printed = packing::list(&input[at..have], &mut text[put..]);
+    let printed = packing::list(counts, &input[at..have], &mut text[put..]);
     State {
         at: at + printed.consumed as usize,
         have,
@@ -98,8 +99,8 @@ fn print(input: &[u8], text: &mut [u8], state: State) -> State
 }
 
 // Reads more where a record may be cut, else lists one. `going` holds when a turn begins.
-fn turn(input: &mut [u8], text: &mut [u8], state: State) -> State
-    requires { ⌜ Inside (now input) (now text) state ⌝ }
+fn turn(counts: &[u64], input: &mut [u8], text: &mut [u8], state: State) -> State
+    requires { ⌜ Counts (now counts) × Inside (now input) (now text) state ⌝ }
     ensures { λ r. ⌜ Inside (now (input .exit)) (now (text .exit)) r ⌝ }
 {
     if state.open {
@@ -111,7 +112,7 @@ fn turn(input: &mut [u8], text: &mut [u8], state: State) -> State
     if !ready.going {
         return ready;
     }
-    print(input, text, ready)
+    print(counts, input, text, ready)
 }
 
 // The turns that are left after one: none where the list has ended.
@@ -124,7 +125,9 @@ fn fewer(turns: u64, going: bool) -> u64
 
 // [E12] Goes on to the end of the list. Nothing says that the input ends, so the turns are counted down, from a
 // number that no run uses up.
-fn run(input: &mut [u8], text: &mut [u8]) {
+fn run(counts: &[u64], input: &mut [u8], text: &mut [u8])
+    requires { ⌜ Counts (now counts) ⌝ }
+{
     let mut state = State {
         at: 0,
         have: 0,
@@ -134,7 +137,7 @@ fn run(input: &mut [u8], text: &mut [u8]) {
     };
     let mut turns = u64::MAX;
     while 0 < turns {
-        state = turn(input, text, state);
+        state = turn(counts, input, text, state);
         turns = fewer(turns, state.going);
     }
     let put = state.put;
@@ -144,5 +147,7 @@ fn run(input: &mut [u8], text: &mut [u8]) {
 fn main() {
     let mut input = io::large_buffer();
     let mut text = io::large_buffer();
-    run(&mut input, &mut text);
+    let mut counts = [0u64; triangle::PLACES];
+    triangle::fill(&mut counts);
+    run(&counts, &mut input, &mut text);
 }

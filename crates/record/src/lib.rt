@@ -2,6 +2,7 @@
 // way. The contracts cite specs/Record and specs/Reading; proofs/Theorems says that what was written is read
 // back, and that what is read is written again byte for byte.
 ghost use mathlib.Core.Path.{_≡_};
+ghost use Rattle.triangle.specs.Count.{Counts};
 ghost use Rattle.record.specs.Record.{writeAnswer, writeLeft};
 ghost use Rattle.record.specs.Reading.{readAnswer, readLeft};
 ghost use Rattle.record.specs.Reading as said;
@@ -81,6 +82,15 @@ impl Reading {
 pub fn read(src: &[u8], out: &mut [u8]) -> Reading
     ensures { λ r. ⌜ (r ≡ readAnswer (now (src .entry)) (now (out .entry))) × (now (out .exit) ≡ readLeft (now (src .entry)) (now (out .entry))) ⌝ }
 {
+    let none = [0u64; 1];
+    read_by(&none[..0], src, out)
+}
+
+// The same, by a list of counts that the caller keeps from call to call.
+pub fn read_by(counts: &[u64], src: &[u8], out: &mut [u8]) -> Reading
+    requires { ⌜ Counts (now counts) ⌝ }
+    ensures { λ r. ⌜ (r ≡ readAnswer (now (src .entry)) (now (out .entry))) × (now (out .exit) ≡ readLeft (now (src .entry)) (now (out .entry))) ⌝ }
+{
     if out.len() < reads::ROOM {
         return Reading::Refused(Refusal::NoRoom, 0);
     }
@@ -93,8 +103,8 @@ pub fn read(src: &[u8], out: &mut [u8]) -> Reading
     }
     let kind = reads::kind(src);
     match kind {
-        1 => reads::numbered(src, long, out),
-        2 => reads::beaten(src, long, out),
+        1 => reads::numbered(counts, src, long, out),
+        2 => reads::beaten(counts, src, long, out),
         _ => Reading::Refused(Refusal::UnknownKind, 2 + long),
     }
 }

@@ -5,7 +5,7 @@ ghost use mathlib.Core.List.{_++_};
 ghost use Prim.Native.Nat.{_+_, _≤_, _<_};
 ghost use lib.ListN.{length, take, drop};
 ghost use Rattle.refusal.specs.Order.{judge};
-ghost use Rattle.triangle.specs.Count.{largest};
+ghost use Rattle.triangle.specs.Count.{largest, Counts};
 ghost use Rattle.counts.specs.Counts.{Allowed, countRows};
 ghost use Rattle.circle.specs.Answers.{left};
 ghost use Rattle.number.specs.Number.{numberOf, formOf};
@@ -66,8 +66,8 @@ fn wide(byte: u8) -> u64
 }
 
 // The form of a number, where its counts are allowed and have it.
-fn formed(t: u64, s: u64, number: u64, long: u64, out: &mut [u8]) -> Reading
-    requires { ⌜ (long ≤ longest) × (largest + largest ≤ length (now out)) ⌝ }
+fn formed(counts: &[u64], t: u64, s: u64, number: u64, long: u64, out: &mut [u8]) -> Reading
+    requires { ⌜ Counts (now counts) × (long ≤ longest) × (largest + largest ≤ length (now out)) ⌝ }
     ensures { λ r. ⌜ (r ≡ told t s number long (judge (numberRows t s number))) × (now (out .exit) ≡ left (judge (numberRows t s number)) (formOf t s number ++ drop (t + s) (now (out .entry))) (now (out .entry))) ⌝ }
 {
     let allowed = counts::allowed(t, s);
@@ -75,7 +75,7 @@ fn formed(t: u64, s: u64, number: u64, long: u64, out: &mut [u8]) -> Reading
         Verdict::Refused(why) => Reading::Refused(why, 2 + long),
         Verdict::Accepted => {
             let n = (t + s) as usize;
-            let verdict = number::form(t, s, number, &mut out[..n]);
+            let verdict = number::form_by(counts, t, s, number, &mut out[..n]);
             match verdict {
                 Verdict::Refused(why) => Reading::Refused(why, 2 + long),
                 Verdict::Accepted => Reading::Order(Order {
@@ -90,27 +90,35 @@ fn formed(t: u64, s: u64, number: u64, long: u64, out: &mut [u8]) -> Reading
 }
 
 // A record of kind 1.
-pub fn numbered(src: &[u8], long: u64, out: &mut [u8]) -> Reading
-    requires { ⌜ Whole (now src) long (now out) ⌝ }
+pub fn numbered(counts: &[u64], src: &[u8], long: u64, out: &mut [u8]) -> Reading
+    requires { ⌜ Counts (now counts) × Whole (now src) long (now out) ⌝ }
     ensures { λ r. ⌜ (r ≡ reading part.numbered (now (src .entry)) (judge (kindRows part.numbered (now (src .entry))))) × (now (out .exit) ≡ leaving part.numbered (now (src .entry)) (judge (kindRows part.numbered (now (src .entry)))) (now (out .entry))) ⌝ }
 {
     if long != 12 {
         return Reading::Refused(Refusal::WrongSize, 2 + long);
     }
     let number = little::value(&src[6..14]);
-    formed(wide(src[4]), wide(src[5]), number, long, out)
+    formed(counts, wide(src[4]), wide(src[5]), number, long, out)
 }
 
 // The beats that are packed, where no unused bit is set and they are a schedule; the room takes them until
 // that is known.
-fn spread(t: u64, s: u64, long: u64, packed: &[u8], room: &mut [u8], out: &mut [u8]) -> Reading
-    requires { ⌜ Allowed t s × (long ≡ 4 + bytesFor (t + s)) × (length (now packed) ≡ bytesFor (t + s)) × (length (now room) ≡ t + s) × (length (now out) ≡ t + s) ⌝ }
+fn spread(
+    counts: &[u64],
+    t: u64,
+    s: u64,
+    long: u64,
+    packed: &[u8],
+    room: &mut [u8],
+    out: &mut [u8],
+) -> Reading
+    requires { ⌜ Counts (now counts) × Allowed t s × (long ≡ 4 + bytesFor (t + s)) × (length (now packed) ≡ bytesFor (t + s)) × (length (now room) ≡ t + s) × (length (now out) ≡ t + s) ⌝ }
     ensures { λ r. ⌜ (r ≡ told t s (numberOf t s (unpacked (t + s) (now (packed .entry)))) long (judge (bodyRows part.beaten t s long (now (packed .entry))))) × (now (out .exit) ≡ left (judge (bodyRows part.beaten t s long (now (packed .entry)))) (unpacked (t + s) (now (packed .entry))) (now (out .entry))) ⌝ }
 {
     if !pack::unpack(packed, room) {
         return Reading::Refused(Refusal::WrongSize, 2 + long);
     }
-    let numbered = number::number(t, s, room);
+    let numbered = number::number_by(counts, t, s, room);
     match numbered {
         Answer::Refused(why) => Reading::Refused(why, 2 + long),
         Answer::Value(number) => {
@@ -126,8 +134,8 @@ fn spread(t: u64, s: u64, long: u64, packed: &[u8], room: &mut [u8], out: &mut [
 }
 
 // The packed beats of a form, where its counts are allowed and its L is what they need.
-fn unpacked(t: u64, s: u64, long: u64, packed: &[u8], out: &mut [u8]) -> Reading
-    requires { ⌜ (long ≤ longest) × (length (now packed) + 4 ≡ long) × (largest + largest ≤ length (now out)) ⌝ }
+fn unpacked(counts: &[u64], t: u64, s: u64, long: u64, packed: &[u8], out: &mut [u8]) -> Reading
+    requires { ⌜ Counts (now counts) × (long ≤ longest) × (length (now packed) + 4 ≡ long) × (largest + largest ≤ length (now out)) ⌝ }
     ensures { λ r. ⌜ (r ≡ told t s (numberOf t s (beats.unpacked (t + s) (now (packed .entry)))) long (judge (countRows t s ++ bodyRows part.beaten t s long (now (packed .entry))))) × (now (out .exit) ≡ left (judge (countRows t s ++ bodyRows part.beaten t s long (now (packed .entry)))) (beats.unpacked (t + s) (now (packed .entry)) ++ drop (t + s) (now (out .entry))) (now (out .entry))) ⌝ }
 {
     let allowed = counts::allowed(t, s);
@@ -139,19 +147,19 @@ fn unpacked(t: u64, s: u64, long: u64, packed: &[u8], out: &mut [u8]) -> Reading
                 return Reading::Refused(Refusal::WrongSize, 2 + long);
             }
             let mut room = [0u8; ROOM];
-            spread(t, s, long, packed, &mut room[..n], &mut out[..n])
+            spread(counts, t, s, long, packed, &mut room[..n], &mut out[..n])
         }
     }
 }
 
 // A record of kind 2.
-pub fn beaten(src: &[u8], long: u64, out: &mut [u8]) -> Reading
-    requires { ⌜ Whole (now src) long (now out) ⌝ }
+pub fn beaten(counts: &[u64], src: &[u8], long: u64, out: &mut [u8]) -> Reading
+    requires { ⌜ Counts (now counts) × Whole (now src) long (now out) ⌝ }
     ensures { λ r. ⌜ (r ≡ reading part.beaten (now (src .entry)) (judge (kindRows part.beaten (now (src .entry))))) × (now (out .exit) ≡ leaving part.beaten (now (src .entry)) (judge (kindRows part.beaten (now (src .entry)))) (now (out .entry))) ⌝ }
 {
     if long < 4 {
         return Reading::Refused(Refusal::WrongSize, 2 + long);
     }
     let end = 2 + long as usize;
-    unpacked(wide(src[4]), wide(src[5]), long, &src[6..end], out)
+    unpacked(counts, wide(src[4]), wide(src[5]), long, &src[6..end], out)
 }

@@ -3,12 +3,13 @@
 --     N-over     N(t, s) is 0 where s is above t
 --     N-add      the addition rule
 --     N-pos      there is a form for each pair of counts with s up to t
+--     counted-N  up to the largest count `counted` is N
 -- Assumes nothing.
 use mathlib.Core.Path.{_≡_, refl}
 use Prim.Native.Nat.{ℕ, zero, suc, _+_, _≤_, _<_}
 use native.Mathlib.Omega.{arith}
 use borrow.Author.Tests.{le-leb, lt-leb}
-use Rattle.triangle.specs.Count.{N}
+use Rattle.triangle.specs.Count.{N, largest, counted}
 
 pub N-zero : (t : ℕ) → N t 0 ≡ 1
 unfolding N
@@ -28,3 +29,7 @@ pub N-pos : (t s : ℕ) → s ≤ t → 1 ≤ N t s
 N-pos t zero h = omega (arith, N-zero t)
 N-pos zero (suc s) h = omega arith
 N-pos (suc t) (suc s) h = omega (arith, N-add t s (omega arith), N-pos (suc t) s (omega arith))
+
+pub counted-N : (t s : ℕ) → t ≤ largest → counted t s ≡ N t s
+unfolding counted
+counted-N t s h = simp (le-leb t largest h)

@@ -1,6 +1,6 @@
 -- The look-up's parts hold what the table holds: tested once over each part, and a law turns the test into the entry [N7].
---     place t s                     where the count of t, s stands among the counts with s up to t, row after row
 --     pair-le                       the product that it halves grows with the row
+--     place-below, place-from       a place before a row's first is of a row before it, and one from there on of that row or a later one
 --     agree                         the test, which the check computes: the rows of the table stand in the part one after another
 --     low-at, middle-at, high-at    so the entry at t, s stands in its part
 --     at-over                       past s = t the table has zeros
@@ -8,24 +8,31 @@
 use mathlib.Core.Bool.{Bool}
 use mathlib.Core.List.{List}
 use mathlib.Core.Path.{_≡_, _∙_, subst}
-use Prim.Native.Nat.{ℕ, suc, _+_, _-_, _*_, _/_, _<_, _≤_}
-use native.Mathlib.Nat.{mul-le-mul}
+use Prim.Native.Nat.{ℕ, suc, _+_, _-_, _*_, _<_, _≤_}
+use native.Mathlib.Nat.{mul-le-mul, mul-suc, mul-comm}
 use native.Mathlib.Omega.{arith}
 use native.Mathlib.Decide.{decLe}
 use lib.Dec.{T, eqb, eqb→eq}
 use lib.ListN.{getD}
-use Rattle.triangle.specs.Count.{largest}
+use Rattle.triangle.specs.Count.{largest, place}
 use Rattle.triangle.specs.Table.{at, low, middle, high, middleRow, highRow}
 use Rattle.bounded.specs.Bounded.{every}
 use Rattle.bounded.proofs.Every.{every-T}
 use Rattle.triangle.proofs.Count.{N-over}
 use Rattle.triangle.proofs.Rule.{at-N, at-column-outside}
 
-abbrev pub place : ℕ → ℕ → ℕ
-place t s = t * (t + 1) / 2 + s
-
 pub pair-le : (a b : ℕ) → a ≤ b → a * (a + 1) ≤ b * (b + 1)
 pair-le a b h = mul-le-mul {n₁ = a} {m₁ = a + 1} {n₂ = b} {m₂ = b + 1} h (omega arith)
+
+module _ (t s row : ℕ) where
+  pub place-below : place t s < place row 0 → t < row
+  place-below h = elim (decLe row t) [ yes k ↦ absurd (omega (arith, pair-le row t k)) | no k ↦ omega arith ]
+
+  pub place-from : s ≤ t → place row 0 ≤ place t s → row ≤ t
+  place-from k h = elim (decLe row t) [ yes l ↦ l | no l ↦ absurd (omega (arith, next t, pair-le (t + 1) row (omega arith))) ]
+    where
+      next : (a : ℕ) → (a + 1) * (a + 1 + 1) ≡ a * (a + 1) + 2 * (a + 1)
+      next a = omega (arith, mul-suc (a + 1) (a + 1), mul-suc (a + 1) a, mul-comm (a + 1) a)
 
 -- whether the n rows of the table from a first one on, each up to s = t, are the list
 agree : List ℕ → ℕ → ℕ → Bool

@@ -1,7 +1,9 @@
 // The counts N(t, s), a row for each t: the table, and the look-up that reads no table.
 // Written by table.py from the largest count in specs/Count.antt; not edited by hand.
 ghost use mathlib.Core.Path.{_≡_};
+ghost use Prim.Native.Nat.{_≤_};
 ghost use lib.ListN.{getD};
+ghost use Rattle.triangle.specs.Count.{largest};
 ghost use Rattle.triangle.specs.Table.{at, low, middle, high};
 
 // The largest number of tasks that a schedule takes up.
@@ -1770,7 +1772,22 @@ fn in_high(t: u64, s: u64, i: u64) -> u64
     }
 }
 
-// The table's entry, by matches whose arms are literals: one load from read-only memory.
+// The entry with s up to t, by matches whose arms are literals: one load from read-only memory.
+pub fn inside(t: u64, s: u64) -> u64
+    requires { ⌜ (t ≤ largest) × (s ≤ t) ⌝ }
+    ensures { λ r. ⌜ r ≡ at t s ⌝ }
+{
+    let i = t * (t + 1) / 2 + s;
+    if i < 190 {
+        return in_low(t, s, i);
+    }
+    if i < 378 {
+        return in_middle(t, s, i - 190);
+    }
+    in_high(t, s, i - 378)
+}
+
+// The table's entry, and 0 outside the table and past s = t.
 pub fn entry(t: u64, s: u64) -> u64
     ensures { λ r. ⌜ r ≡ at t s ⌝ }
 {
@@ -1780,12 +1797,5 @@ pub fn entry(t: u64, s: u64) -> u64
     if t < s {
         return 0;
     }
-    let i = t * (t + 1) / 2 + s;
-    if t < 19 {
-        return in_low(t, s, i);
-    }
-    if t < 27 {
-        return in_middle(t, s, i - 190);
-    }
-    in_high(t, s, i - 378)
+    inside(t, s)
 }

@@ -6,7 +6,8 @@ use Rattle.refusal.specs.declared.Answer.{Answer}
 use Rattle.refusal.specs.declared.Verdict.{Verdict}
 use Rattle.refusal.specs.Answer.{answer}
 use Rattle.triangle.specs.Count.{N}
-use Rattle.counts.proofs.Sizes.{counts-allowed, counted-N}
+use Rattle.triangle.proofs.Count.{counted-N}
+use Rattle.counts.proofs.Sizes.{counts-allowed}
 use Rattle.counts.proofs.count.Statement.{statement}
 use Rattle.counts.proofs.count.Tie as tie
 

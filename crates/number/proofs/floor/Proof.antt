@@ -1,25 +1,24 @@
 -- `number::floor` meets its contract. Assumes nothing.
 use mathlib.Core.Path.{_∙_}
-use Prim.Native.Nat.{_-_}
+use native.Mathlib.Omega.{arith}
 use borrow.Author.Needs.{needs}
-use Rattle.counts.proofs.Sizes.{counted-N}
 use Rattle.number.proofs.Writing.{floor-zero, floor-more}
 use Rattle.number.proofs.floor.Statement.{statement}
 use Rattle.number.proofs.floor.Tie as tie
 
-sub-forms : tie.Need-sub-forms
-sub-forms c = search needs
+sub-look : tie.Need-sub-look
+sub-look c = search needs
 
-forms-requires : tie.Need-forms-requires
-forms-requires c κs = search needs
+look-requires : tie.Need-look-requires
+look-requires c κs = let start = c .before .before in (start .pre .0, start .pre .1, omega (arith, start .pre .2))
 
 returns : tie.Need-returns
-returns c = floor-zero (c .before .args .p) (c .before .args .q) (c .if1 .taken)
+returns c = let args = c .before .before .args in floor-zero (args .p) (args .q) (c .if1 .taken)
 
 returns-2 : tie.Need-returns-2
 returns-2 c =
-    let args = c .before .before .args in
-    c .forms .ensures ∙ counted-N (args .p) (args .q - 1) (c .before .before .pre) ∙ floor-more (args .p) (args .q) (c .before .if1 .left)
+    let args = c .before .before .before .args in
+    c .look .ensures ∙ floor-more (args .p) (args .q) (c .before .if1 .left)
 
 pub floor-spec : {M : Type 1} → statement M
-floor-spec = tie.close (tie.spec sub-forms forms-requires returns returns-2)
+floor-spec = tie.close (tie.spec sub-look look-requires returns returns-2)

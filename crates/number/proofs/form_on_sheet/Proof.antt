@@ -17,6 +17,12 @@ use Rattle.number.proofs.Verdicts.{number-allowed, sheet-refused, sheet
 use Rattle.number.proofs.form_on_sheet.Statement.{statement}
 use Rattle.number.proofs.form_on_sheet.Tie as tie
 
+array-share-prefix-none : tie.Need-array-share-prefix-none
+array-share-prefix-none c = search needs
+
+slice-aggregate-numbered : tie.Need-slice-aggregate-numbered
+slice-aggregate-numbered c = search needs
+
 numbered-requires : tie.Need-numbered-requires
 numbered-requires c κs = search needs
 
@@ -33,7 +39,7 @@ done c = onSheet (c .args .column) (formOf (c .args .t) (c .args .s) (c .args .n
 -- in the second arm the counts have a form of the number
 module _ (c : tie.After-enum-told) where
   abbrev start : tie.Start
-  start = c .before .before .before .before
+  start = c .before .before .before .before .before
 
   abbrev t : ℕ
   t = start .args .t
@@ -75,6 +81,12 @@ returns-2 c =
 add-end : tie.Need-add-end
 add-end c = search needs
 
+array-share-prefix-none-2 : tie.Need-array-share-prefix-none-2
+array-share-prefix-none-2 c = search needs
+
+slice-aggregate-write : tie.Need-slice-aggregate-write
+slice-aggregate-write c = search needs
+
 sub-write : tie.Need-sub-write
 sub-write c = search needs
 
@@ -85,12 +97,12 @@ part-write-end : tie.Need-part-write-end
 part-write-end c = search needs
 
 write-requires : tie.Need-write-requires
-write-requires c κs = let told = c .before .before .before in (within told .0, within told .1, search needs, within told .2)
+write-requires c κs = let told = c .before .before .before .before in (search needs, within told .0, within told .1, search needs, within told .2)
 
 returns-3 : tie.Need-returns-3
 returns-3 c =
     let called = c .before .before .before in
-    let asked = called .before .before in
+    let asked = called .before .before .before in
     let args = asked .args in
     let told = sym (called .numbered .ensures) ∙ c .before .verdict .given .1 in
     let refused = sheet-refused (args .t) (args .s) (args .number) (args .sheet .now) (args .column) told in
@@ -102,9 +114,9 @@ same-length c = search needs
 returns-4 : tie.Need-returns-4
 returns-4 c =
     let wrote = c .before .before in
-    let fits = wrote .before .before in
+    let fits = wrote .before .before .before in
     let told = fits .before .before in
-    let form = wrote .write .last .1 .1 .1 .0 in
+    let form = wrote .write .last .1 .1 .1 .1 .0 in
     let long : length form ≡ t told + s told =
     ap length (wrote .write .ensures) ∙ form-schedule (within told .1) (number told) .size in
     let room : column told + t told + s told ≤ length (sheet told) = omega (arith, fits .before .if1 .left, fits .if2 .left) in
@@ -119,6 +131,8 @@ pub form-on-sheet-spec : {M : Type 1} → statement M
 form-on-sheet-spec =
     tie.close
     (tie.spec
+    array-share-prefix-none
+    slice-aggregate-numbered
     numbered-requires
     enum-known-verdict
     enum-told
@@ -126,6 +140,8 @@ form-on-sheet-spec =
     returns
     returns-2
     add-end
+    array-share-prefix-none-2
+    slice-aggregate-write
     sub-write
     part-write-start
     part-write-end

@@ -4,9 +4,8 @@ use native.Mathlib.Omega.{arith}
 use borrow.Author.Needs.{needs}
 use Rattle.refusal.specs.declared.Verdict.{Verdict}
 use Rattle.refusal.specs.Order.{judge}
-use Rattle.triangle.specs.Count.{N}
 use Rattle.counts.specs.Counts.{countRows}
-use Rattle.counts.proofs.Sizes.{counts-allowed, counted-N}
+use Rattle.counts.proofs.Sizes.{counts-allowed}
 use Rattle.number.proofs.Verdicts.{number-refused, number-beyond, number-taken}
 use Rattle.number.proofs.numbered.Statement.{statement}
 use Rattle.number.proofs.numbered.Tie as tie
@@ -20,35 +19,34 @@ enum-known-verdict c = search needs
 enum-told : tie.Need-enum-told
 enum-told c = search needs
 
-forms-requires : tie.Need-forms-requires
-forms-requires c κs = search needs
-
 returns : tie.Need-returns
 returns c =
     let called = c .before .before .before in
-    let args = called .before .args in
+    let args = called .before .before .args in
     sym (number-refused (args .t) (args .s) (args .number) (sym (called .allowed .ensures) ∙ c .before .verdict .given .1))
 
--- in the second arm the counts are allowed, and their forms are looked up
-module _ (c : tie.After-forms) where
+-- in the second arm the counts are allowed
+module _ (c : tie.After-enum-told) where
   abbrev start : tie.Start
   start = c .before .before .before .before
 
   fine : judge (countRows (start .args .t) (start .args .s)) ≡ Verdict.Accepted
-  fine = sym (c .before .before .before .allowed .ensures) ∙ c .before .enum-told .given .1
+  fine = sym (c .before .before .allowed .ensures) ∙ c .enum-told .given .1
 
-  looked : c .forms .result ≡ N (start .args .t) (start .args .s)
-  looked = c .forms .ensures ∙ counted-N (start .args .t) (start .args .s) (counts-allowed (start .args .t) (start .args .s) fine .0)
+look-requires : tie.Need-look-requires
+look-requires c κs = let allowed = counts-allowed (start c .args .t) (start c .args .s) (fine c) in (start c .pre, allowed .0, allowed .1)
 
 returns-2 : tie.Need-returns-2
 returns-2 c =
-    let args = start (c .before) .args in
-    sym (number-taken (args .t) (args .s) (args .number) (fine (c .before)) (omega (arith, c .if1 .taken, looked (c .before))))
+    let told = c .before .before in
+    let args = start told .args in
+    sym (number-taken (args .t) (args .s) (args .number) (fine told) (omega (arith, c .if1 .taken, c .before .look .ensures)))
 
 returns-3 : tie.Need-returns-3
 returns-3 c =
-    let args = start (c .before) .args in
-    sym (number-beyond (args .t) (args .s) (args .number) (fine (c .before)) (omega (arith, c .if1 .left, looked (c .before))))
+    let told = c .before .before in
+    let args = start told .args in
+    sym (number-beyond (args .t) (args .s) (args .number) (fine told) (omega (arith, c .if1 .left, c .before .look .ensures)))
 
 pub numbered-spec : {M : Type 1} → statement M
 numbered-spec =
@@ -57,7 +55,7 @@ numbered-spec =
     allowed-requires
     enum-known-verdict
     enum-told
-    forms-requires
+    look-requires
     returns
     returns-2
     returns-3)

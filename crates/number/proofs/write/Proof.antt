@@ -9,22 +9,21 @@ use mir.Val.{boolByte}
 use lib.Dec.{ltb}
 use lib.ListN.{length, length-set}
 use Rattle.triangle.specs.Count.{N}
-use Rattle.counts.proofs.Sizes.{counted-N}
 use Rattle.number.proofs.Writing.{Behind, behind-none, behind-some, floor-some, floor-within, next-within, less-within, one-within, behind-turn, behind-all}
 use Rattle.number.proofs.write.Statement.{statement}
 use Rattle.number.proofs.write.Tie as tie
 
 abbrev Inv-loop : tie.InvT-loop
-Inv-loop t s number out₀ at₀ p₀ all₀ low₀ k₀ out at p all low k = (length out ≡ length out₀) × Behind t s number out at p k all low
+Inv-loop counts t s number out₀ at₀ p₀ all₀ low₀ k₀ out at p all low k = (length out ≡ length out₀) × Behind t s number out at p k all low
 
 abbrev μ-loop : tie.MeasureT-loop
-μ-loop t s number out₀ at₀ p₀ all₀ low₀ k₀ out at p all low k = at
+μ-loop counts t s number out₀ at₀ p₀ all₀ low₀ k₀ out at p all low k = at
 
-forms-requires : tie.Need-forms-requires Inv-loop μ-loop
-forms-requires c κs = search needs
+look-requires : tie.Need-look-requires Inv-loop μ-loop
+look-requires c κs = let start = c .before .before in (start .pre .0, start .pre .1, start .pre .2)
 
 floor-requires : tie.Need-floor-requires Inv-loop μ-loop
-floor-requires c κs = search needs
+floor-requires c κs = let start = c .before .before .before in (start .pre .0, start .pre .1, start .pre .2)
 
 listed-requires : tie.Need-listed-requires Inv-loop μ-loop
 listed-requires c κs = search needs
@@ -32,11 +31,14 @@ listed-requires c κs = search needs
 loop-holds : tie.Need-loop-holds Inv-loop μ-loop
 loop-holds c =
     let looked = c .before .before in
-    let start = looked .before .before in
+    let start = looked .before .before .before in
     let args = start .args in
     let pre = start .pre in
-    let count = looked .forms .ensures ∙ counted-N (args .t) (args .s) (pre .0) in
-    (refl, behind-none (args .out .now) (pre .0) (pre .1) (pre .2) (pre .3) count (c .before .floor .ensures) (c .listed .ensures))
+    (refl, behind-none (args .out .now) (pre .1) (pre .2) (pre .3) (pre .4) (looked .look .ensures) (c .before .floor .ensures) (c .listed .ensures))
+
+-- where the loop's test is reached, back to the call
+abbrev entry : tie.At-loop Inv-loop μ-loop → tie.Start Inv-loop μ-loop
+entry c = c .before .before .before .before .before .before
 
 -- at a turn there is a 0 left
 some : (c : tie.In-loop Inv-loop μ-loop) → 1 ≤ c .before .loop .inv .1 .down
@@ -45,22 +47,24 @@ some c = behind-some (c .before .loop .inv .1) (c .loop-test .taken)
 sub-at : tie.Need-sub-at Inv-loop μ-loop
 sub-at c = omega (arith, c .before .loop .inv .1 .left, some c)
 
-sub-forms : tie.Need-sub-forms Inv-loop μ-loop
-sub-forms c = omega (arith, c .before .loop .inv .1 .level, some c)
+sub-look : tie.Need-sub-look Inv-loop μ-loop
+sub-look c = omega (arith, c .before .loop .inv .1 .level, some c)
 
-sub-forms-2 : tie.Need-sub-forms-2 Inv-loop μ-loop
-sub-forms-2 c = omega (arith, c .before .loop .inv .1 .left, some c)
+sub-look-2 : tie.Need-sub-look-2 Inv-loop μ-loop
+sub-look-2 c = omega (arith, c .before .loop .inv .1 .left, some c)
 
-forms-requires-2 : tie.Need-forms-requires-2 Inv-loop μ-loop
-forms-requires-2 c κs = search needs
+look-requires-2 : tie.Need-look-requires-2 Inv-loop μ-loop
+look-requires-2 c κs =
+    let u = c .before .loop .inv .1 in
+    (entry (c .before) .pre .0, omega (arith, u .small), omega (arith, u .left, u .level, some c))
 
 -- what is looked up at a turn
-next : (c : tie.After-forms2 Inv-loop μ-loop) → let here = c .before .before .loop in c .forms2 .result ≡ N (here .p - 1) (here .inv .1 .down - 1)
+next : (c : tie.After-look2 Inv-loop μ-loop) → let here = c .before .before .loop in c .look2 .result ≡ N (here .p - 1) (here .inv .1 .down - 1)
 next c =
     let here = c .before .before .loop in
     let u = here .inv .1 in
     let room : here .at - 1 - here .p ≡ u .down - 1 = omega (arith, u .left) in
-    c .forms2 .ensures ∙ counted-N (here .p - 1) (here .at - 1 - here .p) (omega (arith, u .small)) ∙ ap (λ (q : ℕ). N (here .p - 1) q) room
+    c .look2 .ensures ∙ ap (λ (q : ℕ). N (here .p - 1) q) room
 
 cast-out : tie.Need-cast-out Inv-loop μ-loop
 cast-out c = search needs
@@ -130,8 +134,8 @@ returns c =
     let filled = c .before .before in
     let done = filled .before .before in
     let here = done .before .loop in
-    let start = done .before .before .before .before .before .before in
-    behind-all (here .inv .1) (done .loop-test .left) (start .pre .1) (start .pre .3) (filled .front .ensures)
+    let start = entry (done .before) in
+    behind-all (here .inv .1) (done .loop-test .left) (start .pre .2) (start .pre .4) (filled .front .ensures)
 
 pub write-spec : {M : Type 1} → statement M
 write-spec =
@@ -139,14 +143,14 @@ write-spec =
     (tie.spec
     Inv-loop
     μ-loop
-    forms-requires
+    look-requires
     floor-requires
     listed-requires
     loop-holds
     sub-at
-    sub-forms
-    sub-forms-2
-    forms-requires-2
+    sub-look
+    sub-look-2
+    look-requires-2
     cast-out
     slice-write-out
     sub-pick

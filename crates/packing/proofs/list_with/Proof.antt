@@ -17,11 +17,11 @@ use Rattle.packing.proofs.list_with.Tie as tie
 
 -- the record is accepted, and its beats are in the room
 module _ (c : tie.After-struct-known) where
-  abbrev called : tie.After-read
+  abbrev called : tie.After-read-by
   called = c .before .before .before .before .before .before
 
   abbrev start : tie.Start
-  start = called .before .before .before .before .before
+  start = called .before .before .before .before .before .before
 
   abbrev src : List ℕ
   src = start .args .src .now
@@ -32,21 +32,21 @@ module _ (c : tie.After-struct-known) where
   abbrev order : Order
   order = c .before .before .reading .given .0 .0
 
-  says : Ordered src room (start .pre .0) order
-  says = ordered src room (start .pre .0) order (sym (called .read .ensures .0) ∙ c .before .before .reading .given .1)
+  says : Ordered src room (start .pre .1) order
+  says = ordered src room (start .pre .1) order (sym (called .read-by .ensures .0) ∙ c .before .before .reading .given .1)
 
-  long : length (called .read .last .1 .0) ≡ largest + largest
-  long = called .read .kept .1 .0 ∙ start .pre .0
+  long : length (called .read-by .last .1 .1 .0) ≡ largest + largest
+  long = called .read-by .kept .1 .1 .0 ∙ start .pre .1
 
   -- the part of the room that is lent on
-  shown : take (order .t + order .s) (called .read .last .1 .0) ≡ meant (kindIn src) (ups src) (downs src) (body src)
-  shown = ap (take (order .t + order .s)) (called .read .ensures .1) ∙ says .in-room
+  shown : take (order .t + order .s) (called .read-by .last .1 .1 .0) ≡ meant (kindIn src) (ups src) (downs src) (body src)
+  shown = ap (take (order .t + order .s)) (called .read-by .ensures .1) ∙ says .in-room
 
-  few : (order .t ≤ largest) × (order .s ≤ order .t) × (length (called .read .last .1 .0) ≡ largest + largest)
+  few : (order .t ≤ largest) × (order .s ≤ order .t) × (length (called .read-by .last .1 .1 .0) ≡ largest + largest)
   few = (says .few .0, says .few .1, long)
 
-read-requires : tie.Need-read-requires
-read-requires c κs = search needs
+read-by-requires : tie.Need-read-by-requires
+read-by-requires c κs = c .before .before .before .before .before .pre .0
 
 enum-known-reading : tie.Need-enum-known-reading
 enum-known-reading c = search needs
@@ -58,13 +58,13 @@ slice-reshare-prefix-accepted : tie.Need-slice-reshare-prefix-accepted
 slice-reshare-prefix-accepted c = omega (arith, few c)
 
 slice-aggregate-accepted : tie.Need-slice-aggregate-accepted
-slice-aggregate-accepted c = let here = c .before in sym (length-take-le (order here .t + order here .s) (called here .read .last .1 .0) (omega (arith, few here)))
+slice-aggregate-accepted c = let here = c .before in sym (length-take-le (order here .t + order here .s) (called here .read-by .last .1 .1 .0) (omega (arith, few here)))
 
 accepted-requires : tie.Need-accepted-requires
 accepted-requires c κs =
     let here = c .before .before in
-    let wide = start here .pre .1 in
-    let size = length-take-le (order here .t + order here .s) (called here .read .last .1 .0) (omega (arith, few here)) in (
+    let wide = start here .pre .2 in
+    let size = length-take-le (order here .t + order here .s) (called here .read-by .last .1 .1 .0) (omega (arith, few here)) in (
       omega (arith, wide),
       omega (arith, wide, size, few here),
       subst Beats (sym (shown here)) (says here .schedule .beats),
@@ -92,7 +92,7 @@ returns : tie.Need-returns
 returns c =
     let writing = c .before .before in
     let here = writing .before .before .before in
-    list-accepted (src here) (start here .args .out .now) (start here .pre .1) (room here) (start here .pre .0) (order here) (says here) _ (shown here) (writing .accepted .ensures)
+    list-accepted (src here) (start here .args .out .now) (start here .pre .2) (room here) (start here .pre .1) (order here) (says here) _ (shown here) (writing .accepted .ensures)
 
 same-length-3 : tie.Need-same-length-3
 same-length-3 c = search needs
@@ -107,15 +107,15 @@ returns-2 c =
     let numbering = placing .before in
     let known = numbering .before .before in
     let called = known .before .before .before .before in
-    let start = called .before .before .before .before .before in
-    let down = turned-down (start .args .src .now) (start .args .room .now) (start .pre .0) _ _ (sym (called .read .ensures .0) ∙ known .reading2 .given .1) in
-    list-refused (start .args .src .now) (start .args .out .now) (start .pre .1) _ (down .0) (down .1) (numbering .number .ensures) (placing .place .ensures) (writing .refused .ensures)
+    let start = called .before .before .before .before .before .before in
+    let down = turned-down (start .args .src .now) (start .args .room .now) (start .pre .1) _ _ (sym (called .read-by .ensures .0) ∙ known .reading2 .given .1) in
+    list-refused (start .args .src .now) (start .args .out .now) (start .pre .2) _ (down .0) (down .1) (numbering .number .ensures) (placing .place .ensures) (writing .refused .ensures)
 
 pub list-with-spec : {M : Type 1} → statement M
 list-with-spec =
     tie.close
     (tie.spec
-    read-requires
+    read-by-requires
     enum-known-reading
     add-n
     slice-reshare-prefix-accepted

@@ -13,7 +13,7 @@ use Rattle.packing_list.proofs.print.Tie as tie
 -- a record was listed
 module _ (c : tie.After-list) where
   abbrev start : tie.Start
-  start = c .before .before .before .before .before .before
+  start = c .before .before .before .before .before .before .before
 
   abbrev input : List ℕ
   input = start .args .input .now
@@ -32,10 +32,10 @@ module _ (c : tie.After-list) where
 
   moved : (at + c .list .result .consumed ≤ have) × (put + c .list .result .bytes ≤ length text) × (have ≤ length input)
   moved =
-      let pre = start .pre in
+      let pre = start .pre .1 in
       let record-size : length (take (have - at) (drop at input)) ≡ have - at = length-take-le (have - at) (drop at input) (omega (arith, length-drop at input, pre .held)) in
       let line-size : length (take (length text - put) (drop put text)) ≡ length text - put = length-take-le (length text - put) (drop put text) (omega (arith, length-drop put text)) in
-      let within = listed-within (c .list .ensures) (c .list .kept .1 .0) in
+      let within = listed-within (c .list .ensures) (c .list .kept .1 .1 .0) in
       (omega (arith, within .0, record-size, pre .read), omega (arith, within .1, line-size, pre .lines), pre .held)
 
 returns : tie.Need-returns
@@ -62,11 +62,11 @@ part-list-end-2 c = search needs
 list-requires : tie.Need-list-requires
 list-requires c κs = search needs
 
-add-t14 : tie.Need-add-t14
-add-t14 c = let within = moved (c .before .before) in omega (arith, within)
+add-t15 : tie.Need-add-t15
+add-t15 c = let within = moved (c .before .before) in omega (arith, within)
 
-add-t17 : tie.Need-add-t17
-add-t17 c = let within = moved (c .before .before .before) in omega (arith, within)
+add-t18 : tie.Need-add-t18
+add-t18 c = let within = moved (c .before .before .before) in omega (arith, within)
 
 same-length : tie.Need-same-length
 same-length c = search needs
@@ -89,7 +89,7 @@ print-spec =
     part-list-start-2
     part-list-end-2
     list-requires
-    add-t14
-    add-t17
+    add-t15
+    add-t18
     same-length
     returns-2)

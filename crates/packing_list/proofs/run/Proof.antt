@@ -9,16 +9,16 @@ use Rattle.packing_list.proofs.run.Statement.{statement}
 use Rattle.packing_list.proofs.run.Tie as tie
 
 abbrev Inv-loop : tie.InvT-loop
-Inv-loop input₀ text₀ state₀ turns₀ input text state turns = (length input ≡ length input₀) × (length text ≡ length text₀) × Inside input text state
+Inv-loop counts input₀ text₀ state₀ turns₀ input text state turns = (length input ≡ length input₀) × (length text ≡ length text₀) × Inside input text state
 
 abbrev μ-loop : tie.MeasureT-loop
-μ-loop input₀ text₀ state₀ turns₀ input text state turns = turns
+μ-loop counts input₀ text₀ state₀ turns₀ input text state turns = turns
 
 loop-holds : tie.Need-loop-holds Inv-loop μ-loop
 loop-holds c = (refl, refl, record { read = omega arith; held = omega arith; lines = omega arith })
 
 turn-requires : tie.Need-turn-requires Inv-loop μ-loop
-turn-requires c κs = c .before .before .before .loop .inv .2
+turn-requires c κs = let turning = c .before .before .before in (turning .before .before .before .before .pre, turning .loop .inv .2)
 
 fewer-requires : tie.Need-fewer-requires Inv-loop μ-loop
 fewer-requires c κs = c .before .before .before .before .before .before .before .loop-test .taken
@@ -27,7 +27,7 @@ loop-less : tie.Need-loop-less Inv-loop μ-loop
 loop-less c = c .fewer .ensures
 
 loop-again : tie.Need-loop-again Inv-loop μ-loop
-loop-again c = let turning = c .before .before .before .before .before in let here = turning .before .before .before .before .loop in (turning .turn .kept .0 ∙ here .inv .0, turning .turn .kept .1 .0 ∙ here .inv .1, turning .turn .ensures)
+loop-again c = let turning = c .before .before .before .before .before in let here = turning .before .before .before .before .loop in (turning .turn .kept .1 .0 ∙ here .inv .0, turning .turn .kept .1 .1 .0 ∙ here .inv .1, turning .turn .ensures)
 
 slice-reshare-prefix-write-all : tie.Need-slice-reshare-prefix-write-all Inv-loop μ-loop
 slice-reshare-prefix-write-all c = c .before .loop .inv .2 .lines

@@ -18,20 +18,20 @@ use Rattle.record.proofs.reads.beaten.Tie as tie
 -- L, and the whole record
 module _ (c : tie.After-slice-known) where
   abbrev start : tie.Start
-  start = c .before .before
+  start = c .before .before .before
 
   abbrev src : List ℕ
   src = start .args .src .now
 
   whole : (start .args .long ≡ long src) × (long src ≤ longest) × (2 + long src ≤ length src)
-  whole = let here = whole-long src (start .pre .here) in (start .pre .said, here .0, here .1)
+  whole = let here = whole-long src (start .pre .1 .here) in (start .pre .1 .said, here .0, here .1)
 
 -- L is at least 4
-reaches : (c : tie.Else1) → (4 ≤ long (c .before .before .before .args .src .now)) × (6 ≤ length (c .before .before .before .args .src .now))
+reaches : (c : tie.Else1) → (4 ≤ long (src (c .before))) × (6 ≤ length (src (c .before)))
 reaches c = (omega (arith, whole (c .before), c .if1 .left), omega (arith, whole (c .before), c .if1 .left))
 
-add-t7 : tie.Need-add-t7
-add-t7 c = search needs
+add-t8 : tie.Need-add-t8
+add-t8 c = search needs
 
 returns : tie.Need-returns
 returns c =
@@ -71,7 +71,7 @@ unpacked-requires c κs =
     let known = test .before in
     let packed : length (take (2 + start known .args .long - 6) (drop 6 (src known))) ≡ 2 + start known .args .long - 6 =
     length-take-le (2 + start known .args .long - 6) (drop 6 (src known)) (omega (arith, length-drop 6 (src known), whole known)) in
-    (omega (arith, whole known), omega (arith, packed, whole known, reaches test), start known .pre .room)
+    (start known .pre .0, omega (arith, whole known), omega (arith, packed, whole known, reaches test), start known .pre .1 .room)
 
 same-length : tie.Need-same-length
 same-length c = search needs
@@ -93,7 +93,7 @@ pub beaten-spec : {M : Type 1} → statement M
 beaten-spec =
     tie.close
     (tie.spec
-    add-t7
+    add-t8
     returns
     add-end
     shared-slice-read-wide

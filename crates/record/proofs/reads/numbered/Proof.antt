@@ -18,20 +18,20 @@ use Rattle.record.proofs.reads.numbered.Tie as tie
 -- L, and the whole record
 module _ (c : tie.After-slice-known) where
   abbrev start : tie.Start
-  start = c .before .before
+  start = c .before .before .before
 
   abbrev src : List ℕ
   src = start .args .src .now
 
   whole : (start .args .long ≡ long src) × (long src ≤ longest) × (2 + long src ≤ length src)
-  whole = let here = whole-long src (start .pre .here) in (start .pre .said, here .0, here .1)
+  whole = let here = whole-long src (start .pre .1 .here) in (start .pre .1 .said, here .0, here .1)
 
 -- L is 12
-reaches : (c : tie.Else1) → 14 ≤ length (c .before .before .before .args .src .now)
+reaches : (c : tie.Else1) → 14 ≤ length (src (c .before))
 reaches c = omega (arith, whole (c .before), c .if1 .left)
 
-add-t7 : tie.Need-add-t7
-add-t7 c = omega (arith, whole (c .before) .0, whole (c .before) .1)
+add-t8 : tie.Need-add-t8
+add-t8 c = omega (arith, whole (c .before) .0, whole (c .before) .1)
 
 returns : tie.Need-returns
 returns c =
@@ -67,7 +67,7 @@ wide-requires-2 c κs = search needs
 formed-requires : tie.Need-formed-requires
 formed-requires c κs =
     let known = c .before .before .before .before .before .before .before .before in
-    (omega (arith, whole known), start known .pre .room)
+    (start known .pre .0, omega (arith, whole known), start known .pre .1 .room)
 
 same-length : tie.Need-same-length
 same-length c = search needs
@@ -91,7 +91,7 @@ pub numbered-spec : {M : Type 1} → statement M
 numbered-spec =
     tie.close
     (tie.spec
-    add-t7
+    add-t8
     returns
     sub-value
     part-value-start

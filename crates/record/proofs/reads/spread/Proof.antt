@@ -25,7 +25,7 @@ use Rattle.record.proofs.reads.spread.Tie as tie
 -- the beats are in the room
 module _ (c : tie.After-unpack) where
   abbrev start : tie.Start
-  start = c .before .before .before .before .before
+  start = c .before .before .before .before .before .before
 
   abbrev t : ℕ
   t = start .args .t
@@ -46,23 +46,23 @@ module _ (c : tie.After-unpack) where
   written = c .unpack .last .1 .0
 
   written-is : written ≡ unpacked (t + s) packed
-  written-is = c .unpack .ensures .1 ∙ ap (λ (n : ℕ). unpacked n packed) (start .pre .3)
+  written-is = c .unpack .ensures .1 ∙ ap (λ (n : ℕ). unpacked n packed) (start .pre .4)
 
   result-is : c .unpack .result ≡ eqb (unused (t + s) packed) 0
-  result-is = c .unpack .ensures .0 ∙ ap (λ (n : ℕ). eqb (unused n packed) 0) (start .pre .3)
+  result-is = c .unpack .ensures .0 ∙ ap (λ (n : ℕ). eqb (unused n packed) 0) (start .pre .4)
 
   -- where the unused bits are 0, the verdict is the check's
   verdict : eqb (unused (t + s) packed) 0 ≡ true → judge (bodyRows beaten t s long packed) ≡ checked t s (unpacked (t + s) packed)
   verdict z =
       let beats = unpacked (t + s) packed in
-      spoiled-not t s long packed (start .pre .1) z beats refl
-      ∙ sym (hand-checked t s beats (start .pre .0) (length-tabulate (t + s) _) (unpacked-beats (t + s) packed))
+      spoiled-not t s long packed (start .pre .2) z beats refl
+      ∙ sym (hand-checked t s beats (start .pre .1) (length-tabulate (t + s) _) (unpacked-beats (t + s) packed))
 
 unpack-requires : tie.Need-unpack-requires
 unpack-requires c κs = search needs
 
-add-t15 : tie.Need-add-t15
-add-t15 c = search needs
+add-t16 : tie.Need-add-t16
+add-t16 c = search needs
 
 same-length : tie.Need-same-length
 same-length c = search needs
@@ -70,11 +70,11 @@ same-length c = search needs
 returns : tie.Need-returns
 returns c =
     let made = c .before .before .before in
-    let refused = spoiled-bits (t made) (s made) (long made) (packed made) (start made .pre .1) (sym (result-is made) ∙ not-true (made .unpack .result) (c .if1 .taken)) in
+    let refused = spoiled-bits (t made) (s made) (long made) (packed made) (start made .pre .2) (sym (result-is made) ∙ not-true (made .unpack .result) (c .if1 .taken)) in
     (told-refused refused (λ l. refl) (t made) (s made) _ (long made), left-refused refused _ (out made))
 
 -- the beats are numbered
-module _ (c : tie.After-number) where
+module _ (c : tie.After-number-by) where
   abbrev made : tie.After-unpack
   made = c .before .before .before .before .before
 
@@ -84,17 +84,17 @@ module _ (c : tie.After-number) where
   taken : judge (bodyRows beaten (t made) (s made) (long made) (packed made)) ≡ checked (t made) (s made) beats
   taken = verdict made (sym (result-is made) ∙ not-false (made .unpack .result) (c .before .before .if1 .left))
 
-  numbered : c .number .result ≡ answer (checked (t made) (s made) beats) (numberOf (t made) (s made) beats)
-  numbered = c .number .ensures ∙ ap (λ (b : List ℕ). answer (checked (t made) (s made) b) (numberOf (t made) (s made) b)) (written-is made)
+  numbered : c .number-by .result ≡ answer (checked (t made) (s made) beats) (numberOf (t made) (s made) beats)
+  numbered = c .number-by .ensures ∙ ap (λ (b : List ℕ). answer (checked (t made) (s made) b) (numberOf (t made) (s made) b)) (written-is made)
 
-number-requires : tie.Need-number-requires
-number-requires c κs = search needs
+number-by-requires : tie.Need-number-by-requires
+number-by-requires c κs = start (c .before .before .before .before) .pre .0
 
 enum-known-numbered : tie.Need-enum-known-numbered
 enum-known-numbered c = search needs
 
-add-t19 : tie.Need-add-t19
-add-t19 c = search needs
+add-t20 : tie.Need-add-t20
+add-t20 c = search needs
 
 enum-known-numbered-2 : tie.Need-enum-known-numbered-2
 enum-known-numbered-2 c = search needs
@@ -102,8 +102,8 @@ enum-known-numbered-2 c = search needs
 copy-requires : tie.Need-copy-requires
 copy-requires c κs = search needs
 
-add-t25 : tie.Need-add-t25
-add-t25 c = search needs
+add-t26 : tie.Need-add-t26
+add-t26 c = search needs
 
 same-length-2 : tie.Need-same-length-2
 same-length-2 c = search needs
@@ -129,7 +129,7 @@ returns-3 c =
     let here = made called in
     let value = answer-value (checked (t here) (s here) (beats called)) (numberOf (t here) (s here) (beats called)) (sym (numbered called) ∙ copying .before .before .before .before .numbered2 .given .1) in
     let accepted = taken called ∙ value .0 in
-    let long-room : length (written here) ≡ length (out here) = ap length (written-is here) ∙ length-tabulate (t here + s here) _ ∙ sym (start here .pre .4) in (
+    let long-room : length (written here) ≡ length (out here) = ap length (written-is here) ∙ length-tabulate (t here + s here) _ ∙ sym (start here .pre .5) in (
       ap (λ (m : ℕ). told (t here) (s here) m (long here) Verdict.Accepted) (value .1) ∙ told-accepted accepted (t here) (s here) _ (long here),
       copying .copy .ensures .1 ∙ copied (written here) (out here) long-room ∙ written-is here ∙ left-accepted accepted _ (out here),
     )
@@ -139,15 +139,15 @@ spread-spec =
     tie.close
     (tie.spec
     unpack-requires
-    add-t15
+    add-t16
     same-length
     returns
-    number-requires
+    number-by-requires
     enum-known-numbered
-    add-t19
+    add-t20
     enum-known-numbered-2
     copy-requires
-    add-t25
+    add-t26
     same-length-2
     returns-2
     same-length-3

@@ -25,7 +25,7 @@ use Rattle.record.proofs.reads.unpacked.Tie as tie
 -- in the second arm the counts are allowed
 module _ (c : tie.After-enum-told) where
   abbrev start : tie.Start
-  start = c .before .before .before .before .before
+  start = c .before .before .before .before .before .before
 
   abbrev t : ℕ
   t = start .args .t
@@ -46,7 +46,7 @@ module _ (c : tie.After-enum-told) where
   allowed = sym (c .before .before .allowed .ensures) ∙ c .enum-told .given .1
 
   few : (t ≤ largest) × (s ≤ t) × (largest + largest ≤ length out)
-  few = let counts = counts-allowed t s allowed in (counts .0, counts .1, start .pre .2)
+  few = let counts = counts-allowed t s allowed in (counts .0, counts .1, start .pre .3)
 
   verdict : judge (countRows t s ++ bodyRows beaten t s long packed) ≡ judge (bodyRows beaten t s long packed)
   verdict = judge-accepted (countRows t s) (bodyRows beaten t s long packed) allowed
@@ -57,8 +57,8 @@ allowed-requires c κs = search needs
 enum-known-allowed : tie.Need-enum-known-allowed
 enum-known-allowed c = search needs
 
-add-t11 : tie.Need-add-t11
-add-t11 c = search needs
+add-t12 : tie.Need-add-t12
+add-t12 c = search needs
 
 enum-told : tie.Need-enum-told
 enum-told c = search needs
@@ -69,13 +69,13 @@ add-n c = omega (arith, few c)
 bytes-for-requires : tie.Need-bytes-for-requires
 bytes-for-requires c κs = omega (arith, few c)
 
-add-t17 : tie.Need-add-t17
-add-t17 c = search needs
+add-t18 : tie.Need-add-t18
+add-t18 c = search needs
 
 returns : tie.Need-returns
 returns c =
     let here = c .before .before in
-    let other = spoiled-long (t here) (s here) (long here) (packed here) (λ e. omega (arith, start here .pre .1, c .before .bytes-for .ensures, c .if1 .taken)) in
+    let other = spoiled-long (t here) (s here) (long here) (packed here) (λ e. omega (arith, start here .pre .2, c .before .bytes-for .ensures, c .if1 .taken)) in
     let refused = verdict here ∙ other in
     (told-refused refused (λ l. refl) (t here) (s here) _ (long here), left-refused refused _ (out here))
 
@@ -96,8 +96,9 @@ spread-requires c κs =
     let test = c .before .before in
     let here = test .before .before in
     let exact : length (packed here) ≡ bytesFor (t here + s here) = omega (arith, test .before .bytes-for .ensures, test .if1 .left) in (
+      start here .pre .0,
       (few here .0, few here .1),
-      omega (arith, start here .pre .1, exact),
+      omega (arith, start here .pre .2, exact),
       exact,
       length-take-le (t here + s here) _ (omega (arith, few here)),
       length-take-le (t here + s here) (out here) (omega (arith, few here)),
@@ -106,7 +107,7 @@ spread-requires c κs =
 returns-2 : tie.Need-returns-2
 returns-2 c =
     let called = c .before .before .before in
-    let args = called .before .before .before .args in
+    let args = called .before .before .before .before .args in
     let why = sym (called .allowed .ensures) ∙ c .before .allowed2 .given .1 in
     let refused = judge-refused (countRows (args .t) (args .s)) (bodyRows beaten (args .t) (args .s) (args .long) (args .packed .now)) _ why in
     (told-refused refused (late-counts (args .t) (args .s) why) (args .t) (args .s) _ (args .long), left-refused refused _ (args .out .now))
@@ -132,11 +133,11 @@ unpacked-spec =
     (tie.spec
     allowed-requires
     enum-known-allowed
-    add-t11
+    add-t12
     enum-told
     add-n
     bytes-for-requires
-    add-t17
+    add-t18
     returns
     array-borrow-prefix-room
     slice-aggregate-spread

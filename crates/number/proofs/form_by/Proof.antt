@@ -1,4 +1,4 @@
--- `number::form` meets its contract: a refusal is that of the number, or 3, and leaves what was lent; else the form is written.
+-- `number::form_by` meets its contract: a refusal is that of the number, or 3, and leaves what was lent; else the form is written.
 -- Assumes nothing.
 use mathlib.Core.List.{List}
 use mathlib.Core.Path.{_≡_, _∙_, sym}
@@ -11,8 +11,8 @@ use Rattle.triangle.specs.Count.{N, largest}
 use Rattle.number.specs.Answers.{numberRows}
 use Rattle.number.specs.Number.{formOf}
 use Rattle.number.proofs.Verdicts.{number-allowed, form-refused, form-long, form-taken, refused-left, accepted-left}
-use Rattle.number.proofs.form.Statement.{statement}
-use Rattle.number.proofs.form.Tie as tie
+use Rattle.number.proofs.form_by.Statement.{statement}
+use Rattle.number.proofs.form_by.Tie as tie
 
 numbered-requires : tie.Need-numbered-requires
 numbered-requires c κs = search needs
@@ -26,7 +26,7 @@ enum-told c = search needs
 -- in the second arm the counts have a form of the number
 module _ (c : tie.After-enum-told) where
   abbrev start : tie.Start
-  start = c .before .before .before .before
+  start = c .before .before .before .before .before
 
   abbrev t : ℕ
   t = start .args .t
@@ -56,12 +56,12 @@ returns c =
     refused-left refused (formOf (t told) (s told) (number told)) (out told)
 
 write-requires : tie.Need-write-requires
-write-requires c κs = let told = c .before .before in (within told .0, within told .1, c .before .if1 .left, within told .2)
+write-requires c κs = let told = c .before .before in (start told .pre, within told .0, within told .1, c .before .if1 .left, within told .2)
 
 returns-2 : tie.Need-returns-2
 returns-2 c =
     let called = c .before .before .before in
-    let args = called .before .before .args in
+    let args = called .before .before .before .args in
     let told = sym (called .numbered .ensures) ∙ c .before .verdict .given .1 in
     let refused = form-refused (args .t) (args .s) (args .number) (args .out .now) told in
     refused-left refused (formOf (args .t) (args .s) (args .number)) (args .out .now)
@@ -77,8 +77,8 @@ returns-3 c =
     let accepted = form-taken (t told) (s told) (number told) (out told) (taken told) (long .if1 .left) in
     accepted-left accepted (wrote .write .ensures) (out told)
 
-pub form-spec : {M : Type 1} → statement M
-form-spec =
+pub form-by-spec : {M : Type 1} → statement M
+form-by-spec =
     tie.close
     (tie.spec
     numbered-requires

@@ -1,4 +1,4 @@
--- `record::read` meets its contract: the rows before the kind, one at each return, and then the reader of the kind. Assumes nothing.
+-- `record::read_by` meets its contract: the rows before the kind, one at each return, and then the reader of the kind. Assumes nothing.
 use mathlib.Core.Bool.{false}
 use mathlib.Core.List.{List}
 use mathlib.Core.Path.{_≡_, refl, _∙_, ap, sym}
@@ -15,16 +15,19 @@ use Rattle.record.proofs.Heads.{whole-long}
 use Rattle.record.proofs.Verdicts.{told-why, left-refused}
 use Rattle.record.proofs.Answering.{kind-other, read-room, read-cut, read-tiny, read-unknown, read-kind}
 use borrow.Author.Needs.{needs}
-use Rattle.record.proofs.read.Statement.{statement}
-use Rattle.record.proofs.read.Tie as tie
+use Rattle.record.proofs.read_by.Statement.{statement}
+use Rattle.record.proofs.read_by.Tie as tie
 
 -- there is room
 module _ (c : tie.Else1) where
+  abbrev start : tie.Start
+  start = c .before .before .before .before
+
   abbrev src : List ℕ
-  src = c .before .before .before .args .src .now
+  src = start .args .src .now
 
   abbrev out : List ℕ
-  out = c .before .before .before .args .out .now
+  out = start .args .out .now
 
   roomy : largest + largest ≤ length out
   roomy = omega (arith, c .if1 .left)
@@ -69,7 +72,7 @@ module _ (c : tie.After-kind) where
 
 returns : tie.Need-returns
 returns c =
-    let args = c .before .before .before .args in
+    let args = c .before .before .before .before .args in
     let refused = read-room (length (args .out .now)) (args .src .now) (omega (arith, c .if1 .taken)) in
     (told-why refused _ _ _ _ 0 refl, left-refused refused _ (args .out .now))
 
@@ -85,8 +88,8 @@ returns-2 c =
 long-requires : tie.Need-long-requires
 long-requires c κs = let here = whole-long (src (c .before .before)) (uncut c) in omega (arith, here)
 
-add-t11 : tie.Need-add-t11
-add-t11 c = search needs
+add-t12 : tie.Need-add-t12
+add-t12 c = search needs
 
 returns-3 : tie.Need-returns-3
 returns-3 c =
@@ -101,13 +104,13 @@ kind-requires c κs =
     omega (arith, here, c .before .long .ensures, c .if3 .left)
 
 numbered-requires : tie.Need-numbered-requires
-numbered-requires c κs = known (c .before .before)
+numbered-requires c κs = let here = c .before .before in (start (first here) .pre, known here)
 
 beaten-requires : tie.Need-beaten-requires
-beaten-requires c κs = known (c .before .before)
+beaten-requires c κs = let here = c .before .before in (start (first here) .pre, known here)
 
-add-t18 : tie.Need-add-t18
-add-t18 c =
+add-t19 : tie.Need-add-t19
+add-t19 c =
     let here = c .before in
     omega (arith, here .before .before .long .ensures, whole-long (src (first here)) (uncut (here .before .before .before)))
 
@@ -140,20 +143,20 @@ returns-6 c =
       left-refused refused _ (out (first here)),
     )
 
-pub read-spec : {M : Type 1} → statement M
-read-spec =
+pub read-by-spec : {M : Type 1} → statement M
+read-by-spec =
     tie.close
     (tie.spec
     returns
     is-cut-requires
     returns-2
     long-requires
-    add-t11
+    add-t12
     returns-3
     kind-requires
     numbered-requires
     beaten-requires
-    add-t18
+    add-t19
     same-length
     returns-4
     same-length-2
