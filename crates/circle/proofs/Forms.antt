@@ -3,14 +3,15 @@
 --     step-form         and so is what a step leaves
 --     refused-so, accepted-so     what a call answers and leaves, by the verdict
 --     run-refused, run-long, run-taken     the verdict on a run
+--     run-allowed       what an accepted run says of the schedule and the steps
 --     Walked, walked-start, walked-turn     after some steps of a run: the form reached and the beats changed so far
 -- Assumes nothing.
-use mathlib.Core.List.{List, [], _∷_}
+use mathlib.Core.List.{List, [], _∷_, List·Memᴰ·head}
 use mathlib.Core.Path.{_≡_, refl, _∙_, ap, sym, subst}
 use Prim.Native.Nat.{ℕ, _+_, _*_, _≤_, _<_}
 use native.Mathlib.Numerals.{add-one}
 use native.Mathlib.Omega.{arith}
-use borrow.Author.Tests.{lt-ltb, le-ltb}
+use borrow.Author.Tests.{lt-ltb, le-ltb, ltb-false}
 use lib.Dec.{ltb}
 use lib.ListN.{length}
 use Rattle.refusal.specs.declared.Answer.{Answer}
@@ -19,7 +20,8 @@ use Rattle.refusal.specs.declared.Refusal.the-variants.{RunTooLong}
 use Rattle.refusal.specs.declared.Verdict.{Verdict}
 use Rattle.refusal.specs.Answer.{answer}
 use Rattle.refusal.specs.Order.{_⇒_, judge}
-use Rattle.refusal.proofs.Order.{judge-refused, judge-accepted}
+use Rattle.refusal.proofs.Order.{judge-refused, judge-accepted, judge-front, judge-back}
+use Rattle.refusal.proofs.Theorems.{accepted-none}
 use Rattle.schedule.specs.Schedule.{Schedule}
 use Rattle.schedule.specs.Check.{checkRows, checked}
 use Rattle.schedule.proofs.Hand.{schedule-plays, plays-schedule}
@@ -50,6 +52,12 @@ module _ (t s : ℕ) (b : List ℕ) (k : ℕ) where
 
   pub run-taken : checked t s b ≡ Verdict.Accepted → k ≤ longest → judge (runRows t s b k) ≡ Verdict.Accepted
   run-taken e h = judge-accepted (checkRows t s b) ((ltb longest k ⇒ RunTooLong) ∷ []) e ∙ simp (le-ltb longest k h)
+
+  pub run-allowed : judge (runRows t s b k) ≡ Verdict.Accepted → (checked t s b ≡ Verdict.Accepted) × (k ≤ longest)
+  run-allowed e =
+      let long = (ltb longest k ⇒ RunTooLong) in
+      let none = accepted-none (long ∷ []) (judge-back (checkRows t s b) (long ∷ []) e) long (List·Memᴰ·head refl) in
+      (judge-front (checkRows t s b) (long ∷ []) e, ltb-false longest k none)
 
 pub own-counts : {t s : ℕ} {b : List ℕ} → Schedule t s b → Form b
 own-counts p = plays-schedule (schedule-plays p) refl refl

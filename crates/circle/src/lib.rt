@@ -1,13 +1,15 @@
-// The step and the run along the circle: document 01, "The step". Both work in the lent schedule. The
-// contracts of the public functions cite specs/Answers, which says what they answer and leave by
-// specs/Step and specs/Walk; those of the private ones cite specs/Plan.
+// The step and the run along the circle: document 01, "The step". Both work in the lent schedule, and what
+// each would change comes from a call that writes nothing. The contracts of the public functions cite
+// specs/Answers, which says what they answer and leave by specs/Step and specs/Walk; those of the private
+// ones cite specs/Plan.
 ghost use mathlib.Core.Path.{_≡_};
 ghost use Prim.Native.Nat.{_≤_};
 ghost use lib.ListN.{length};
+ghost use Rattle.refusal.specs.Order.{judge};
 ghost use Rattle.circle.specs.Walk.{steps, worked};
 ghost use Rattle.circle.specs.Plan.{Form, Inside, Plans, applied};
 ghost use Rattle.circle.specs.Plan.{changes as Plan·changes};
-ghost use Rattle.circle.specs.Answers.{longest, nextAnswer, nextLeft, runAnswer, runLeft};
+ghost use Rattle.circle.specs.Answers.{longest, nextAnswer, nextLeft, runRows, runAnswer, runLeft};
 ghost use Rattle.circle.specs.Step.{next as Step·next};
 ghost use Rattle.circle.specs.Walk.{changed as Walk·changed};
 use refusal::Answer;
@@ -16,6 +18,9 @@ use refusal::Verdict;
 
 // The most steps that a run may have.
 pub const LONGEST_RUN: u64 = 65535;
+
+// The beats of the longest schedule: room for a copy of any.
+const ROOM: usize = 2 * triangle::LARGEST as usize;
 
 // What a step does to a schedule: nothing; a 1 stored at the leftmost 0 and a 0 at another place; or
 // these, and the 0 behind the found 1 moved to the second place.
@@ -105,6 +110,31 @@ fn walk(beats: &mut [u8], k: u64) -> u64
     sum
 }
 
+// Takes k steps in a copy of the beats, and answers their changed beats added up.
+fn walk_copy(beats: &[u8], room: &mut [u8], k: u64) -> u64
+    requires { ⌜ Form (now beats) × (length (now room) ≡ length (now beats)) × (k ≤ longest) ⌝ }
+    ensures { λ r. ⌜ r ≡ worked k (now (beats .entry)) ⌝ }
+{
+    bytes::copy(beats, room);
+    walk(room, k)
+}
+
+// Whether the beats may be taken k steps on. Refuses 1 to 6 as the check does, then 13.
+fn may_run(t: u64, s: u64, beats: &[u8], k: u64) -> Verdict
+    ensures { λ r. ⌜ r ≡ judge (runRows t s (now (beats .entry)) k) ⌝ }
+{
+    let verdict = schedule::check(t, s, beats);
+    match verdict {
+        Verdict::Refused(why) => Verdict::Refused(why),
+        Verdict::Accepted => {
+            if LONGEST_RUN < k {
+                return Verdict::Refused(Refusal::RunTooLong);
+            }
+            Verdict::Accepted
+        }
+    }
+}
+
 // Takes the lent schedule one step on, and answers the beats that the step changed. Refuses 1 to 6 as
 // the check does; a refusal changes nothing. [S5] [W1] [P1]
 pub fn next(t: u64, s: u64, beats: &mut [u8]) -> Answer
@@ -133,14 +163,24 @@ pub fn changed(t: u64, s: u64, beats: &[u8]) -> Answer
 pub fn run(t: u64, s: u64, beats: &mut [u8], k: u64) -> Answer
     ensures { λ r. ⌜ (r ≡ runAnswer t s (now (beats .entry)) k) × (now (beats .exit) ≡ runLeft t s (now (beats .entry)) k) ⌝ }
 {
-    let verdict = schedule::check(t, s, beats);
+    let verdict = may_run(t, s, beats, k);
+    match verdict {
+        Verdict::Refused(why) => Answer::Refused(why),
+        Verdict::Accepted => Answer::Value(walk(beats, k)),
+    }
+}
+
+// The beats that a run would change, from a call that writes nothing: it walks in a copy. Refuses as run does.
+pub fn run_changed(t: u64, s: u64, beats: &[u8], k: u64) -> Answer
+    ensures { λ r. ⌜ r ≡ runAnswer t s (now (beats .entry)) k ⌝ }
+{
+    let verdict = may_run(t, s, beats, k);
     match verdict {
         Verdict::Refused(why) => Answer::Refused(why),
         Verdict::Accepted => {
-            if LONGEST_RUN < k {
-                return Answer::Refused(Refusal::RunTooLong);
-            }
-            Answer::Value(walk(beats, k))
+            let n = beats.len();
+            let mut room = [0u8; ROOM];
+            Answer::Value(walk_copy(beats, &mut room[..n], k))
         }
     }
 }

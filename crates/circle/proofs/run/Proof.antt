@@ -1,16 +1,19 @@
--- `circle::run` meets its contract: a refusal is the check's, or 13, and leaves what was lent; else the schedule is walked k steps on.
+-- `circle::run` meets its contract: a refusal leaves what was lent; else the schedule is walked k steps on.
 -- Assumes nothing.
+use mathlib.Core.List.{List}
 use mathlib.Core.Path.{_≡_, _∙_, sym}
+use Prim.Native.Nat.{ℕ}
 use borrow.Author.Needs.{needs}
 use Rattle.refusal.specs.declared.Verdict.{Verdict}
-use Rattle.schedule.specs.Check.{checked}
+use Rattle.refusal.specs.Order.{judge}
 use Rattle.circle.specs.Walk.{steps, worked}
-use Rattle.circle.proofs.Forms.{refused-so, accepted-so, accepted-form, run-refused, run-long, run-taken}
+use Rattle.circle.specs.Answers.{runRows}
+use Rattle.circle.proofs.Forms.{refused-so, accepted-so, accepted-form, run-allowed}
 use Rattle.circle.proofs.run.Statement.{statement}
 use Rattle.circle.proofs.run.Tie as tie
 
-check-requires : tie.Need-check-requires
-check-requires c κs = search needs
+may-run-requires : tie.Need-may-run-requires
+may-run-requires c κs = search needs
 
 enum-known-verdict : tie.Need-enum-known-verdict
 enum-known-verdict c = search needs
@@ -18,63 +21,53 @@ enum-known-verdict c = search needs
 enum-told : tie.Need-enum-told
 enum-told c = search needs
 
-abbrev start : tie.After-check → tie.Start
-start c = c .before .before .before
+-- in the second arm the run is accepted
+module _ (c : tie.After-enum-told) where
+  abbrev start : tie.Start
+  start = c .before .before .before .before .before
 
--- in the second arm the schedule is accepted
-accepted : (c : tie.After-enum-told)
-    → checked (start (c .before .before) .args .t) (start (c .before .before) .args .s) (start (c .before .before) .args .beats .now) ≡ Verdict.Accepted
-accepted c = sym (c .before .before .check .ensures) ∙ c .enum-told .given .1
+  abbrev beats : List ℕ
+  beats = start .args .beats .now
+
+  accepted : judge (runRows (start .args .t) (start .args .s) beats (start .args .k)) ≡ Verdict.Accepted
+  accepted = sym (c .before .before .may-run .ensures) ∙ c .enum-told .given .1
+
+walk-requires : tie.Need-walk-requires
+walk-requires c κs =
+    let told = c .before in
+    let args = start told .args in
+    let allowed = run-allowed (args .t) (args .s) (beats told) (args .k) (accepted told) in
+    (accepted-form (args .t) (args .s) (beats told) (allowed .0), allowed .1)
 
 same-length : tie.Need-same-length
 same-length c = search needs
 
 returns : tie.Need-returns
 returns c =
-    let told = c .before in
-    let args = start (told .before .before) .args in
+    let called = c .before .before .before in
+    let args = called .before .before .before .args in
     let b = args .beats .now in
-    refused-so (run-long (args .t) (args .s) b (args .k) (accepted told) (c .if1 .taken)) (worked (args .k) b) (steps (args .k) b) b
-
-walk-requires : tie.Need-walk-requires
-walk-requires c κs =
-    let told = c .before .before in
-    let args = start (told .before .before) .args in
-    (accepted-form (args .t) (args .s) (args .beats .now) (accepted told), c .before .if1 .left)
+    let refused = sym (called .may-run .ensures) ∙ c .before .verdict .given .1 in
+    refused-so refused (worked (args .k) b) (steps (args .k) b) b
 
 same-length-2 : tie.Need-same-length-2
 same-length-2 c = search needs
 
 returns-2 : tie.Need-returns-2
 returns-2 c =
-    let called = c .before .before .before in
-    let args = start called .args in
-    let b = args .beats .now in
-    refused-so (run-refused (args .t) (args .s) b (args .k) (sym (called .check .ensures) ∙ c .before .verdict .given .1)) (worked (args .k) b) (steps (args .k) b) b
-
-same-length-3 : tie.Need-same-length-3
-same-length-3 c = search needs
-
-returns-3 : tie.Need-returns-3
-returns-3 c =
     let walked = c .before .before in
-    let short = walked .before .before in
-    let told = short .before in
-    let args = start (told .before .before) .args in
-    let b = args .beats .now in
-    accepted-so (run-taken (args .t) (args .s) b (args .k) (accepted told) (short .if1 .left)) (walked .walk .ensures .1) (walked .walk .ensures .0) b
+    let told = walked .before .before in
+    accepted-so (accepted told) (walked .walk .ensures .1) (walked .walk .ensures .0) (beats told)
 
 pub run-spec : {M : Type 1} → statement M
 run-spec =
     tie.close
     (tie.spec
-    check-requires
+    may-run-requires
     enum-known-verdict
     enum-told
+    walk-requires
     same-length
     returns
-    walk-requires
     same-length-2
-    returns-2
-    same-length-3
-    returns-3)
+    returns-2)

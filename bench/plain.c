@@ -1,0 +1,437 @@
+/* The library's functions in plain C, as bench/plain.h lists them: what the library is measured against.
+   The byte loops are what the rules say, written down once; the others are what can be made of them with care.
+   For gcc on a little-endian machine: a word of eight beats has the first in its lowest byte. */
+#include <string.h>
+
+#include "plain.h"
+
+enum { LARGEST = 32, SIDE = LARGEST + 1, BEATS = 2 * LARGEST, LONGEST_RUN = 65535 };
+
+/* A 1 in each byte of a word. */
+#define EACH ((uint64_t)0x0101010101010101)
+
+/* The gain of a 1 behind a bare set-down. The gains of a schedule sum to less than 2^56; 32 of these still fit. */
+#define BARE ((uint64_t)1 << 58)
+
+struct verdict {
+    uint64_t refusal, place;
+};
+
+/* The leftmost 0, and the 1 of the leftmost 0 followed by 1; the length where there is none. */
+struct front {
+    size_t zero, one;
+};
+
+/* For the form at place q of list S(t, s), from 0 on: its last beat is 1 exactly if q - low < width, and then the
+   beats before it stand at place q - low. Else they stand at place q. */
+struct bound {
+    uint64_t low, width;
+};
+
+static uint64_t forms[SIDE][SIDE];        /* N(t, s), 0 for s > t */
+static uint64_t gains[SIDE][SIDE];        /* what a 1 behind so many ones and zeros adds to the number */
+static uint64_t gains_at[LARGEST][BEATS]; /* the same for the k-th 1 from 0 on, by its place */
+static struct bound bounds[SIDE][SIDE];
+
+static uint64_t gain(int ups, int downs) {
+    if (downs > ups) return BARE;
+    return downs > 0 && ups < LARGEST ? forms[ups + 1][downs - 1] - 1 : 0;
+}
+
+void plain_prepare(void) {
+    for (int t = 0; t <= LARGEST; t++)
+        for (int s = 0; s <= t; s++)
+            forms[t][s] = s == 0 ? 1 : forms[t - 1][s] + forms[t][s - 1];
+    for (int t = 0; t <= LARGEST; t++) {
+        bounds[t][0] = (struct bound){0, UINT64_MAX};
+        for (int s = 1; s <= t; s++)
+            bounds[t][s] = (struct bound){forms[t][s - 1] - 1, forms[t][s] - forms[t][s - 1]};
+        for (int s = 0; s <= LARGEST; s++)
+            gains[t][s] = gain(t, s);
+    }
+    for (int k = 0; k < LARGEST; k++)
+        for (int place = k; place < BEATS; place++)
+            gains_at[k][place] = gain(k, place - k);
+}
+
+/* The refusals of counts and of a length. */
+static uint64_t misfit(uint64_t t, uint64_t s, size_t length) {
+    if (t > LARGEST) return 1;
+    if (s > t) return 2;
+    return length != t + s ? 3 : 0;
+}
+
+/* ---- the check ---- */
+
+static struct verdict bytes_check(uint64_t t, uint64_t s, const uint8_t *beats, size_t length) {
+    uint64_t refusal = misfit(t, s, length);
+    if (refusal) return (struct verdict){refusal, 0};
+    for (size_t k = 0; k < length; k++)
+        if (beats[k] > 1) return (struct verdict){4, k};
+    int64_t hand = 0;
+    for (size_t k = 0; k < length; k++) {
+        hand += 2 * (int64_t)beats[k] - 1;
+        if (hand < 0) return (struct verdict){5, k};
+    }
+    return (struct verdict){(uint64_t)hand + s != t ? 6 : 0, 0};
+}
+
+static uint64_t word(const uint8_t *at) {
+    uint64_t w;
+    memcpy(&w, at, 8);
+    return w;
+}
+
+/* The length % 8 beats behind the whole words, 0 in the bytes above them. There is one at least. */
+static uint64_t last_word(const uint8_t *beats, size_t length) {
+    size_t part = length % 8;
+    if (length >= 8) return word(beats + length - 8) >> (64 - 8 * part);
+    uint64_t w = 0;
+    while (part-- > 0)
+        w = w << 8 | beats[part];
+    return w;
+}
+
+/* In each byte 0x80 and what is in hand behind that beat: the product with EACH has the ones up to it. */
+static uint64_t hands(uint64_t hand, uint64_t ups) {
+    return (0x80 + hand) * EACH + 2 * ups - 0x0807060504030201;
+}
+
+/* Whether no row refuses the beats. A beat that is neither 0 nor 1 may spoil the hands, but it shows by itself. */
+static int words_right(uint64_t t, uint64_t s, const uint8_t *beats, size_t length) {
+    uint64_t hand = 0, all = 0, never = 0x80 * EACH;
+    size_t at = 0;
+    for (; at + 8 <= length; at += 8) {
+        uint64_t w = word(beats + at), ups = w * EACH;
+        all |= w;
+        never &= hands(hand, ups);
+        hand += 2 * (ups >> 56) - 8;
+    }
+    if (at < length) {
+        uint64_t w = last_word(beats, length), ups = w * EACH, left = length - at;
+        all |= w;
+        never &= hands(hand, ups) | UINT64_MAX << 8 * left;
+        hand += 2 * (ups >> 56) - left;
+    }
+    return (all & ~EACH) == 0 && never == 0x80 * EACH && hand + s == t;
+}
+
+/* Which row it is that refuses, the byte loops find out. */
+static struct verdict words_check(uint64_t t, uint64_t s, const uint8_t *beats, size_t length) {
+    uint64_t refusal = misfit(t, s, length);
+    if (refusal) return (struct verdict){refusal, 0};
+    if (words_right(t, s, beats, length)) return (struct verdict){0, 0};
+    return bytes_check(t, s, beats, length);
+}
+
+uint64_t bytes_check_refusal(uint64_t t, uint64_t s, const uint8_t *beats, size_t length) {
+    return bytes_check(t, s, beats, length).refusal;
+}
+
+uint64_t bytes_check_place(uint64_t t, uint64_t s, const uint8_t *beats, size_t length) {
+    return bytes_check(t, s, beats, length).place;
+}
+
+uint64_t words_check_refusal(uint64_t t, uint64_t s, const uint8_t *beats, size_t length) {
+    return words_check(t, s, beats, length).refusal;
+}
+
+uint64_t words_check_place(uint64_t t, uint64_t s, const uint8_t *beats, size_t length) {
+    return words_check(t, s, beats, length).place;
+}
+
+/* ---- the count ---- */
+
+uint64_t table_count_refusal(uint64_t t, uint64_t s) {
+    return t > LARGEST ? 1 : s > t ? 2 : 0;
+}
+
+uint64_t table_count_place(uint64_t t, uint64_t s) {
+    (void)t;
+    (void)s;
+    return 0;
+}
+
+uint64_t table_count(uint64_t t, uint64_t s) {
+    if (t > LARGEST || s > t) return 0;
+    return forms[t][s];
+}
+
+/* ---- the step ---- */
+
+static struct front bytes_front(const uint8_t *beats, size_t length) {
+    size_t zero = 0, one;
+    while (zero < length && beats[zero] == 1)
+        zero++;
+    for (one = zero; one < length && beats[one] == 0;)
+        one++;
+    return (struct front){zero, one};
+}
+
+/* The first place from one on whose beat is another, or the length. */
+static size_t words_skip(const uint8_t *beats, size_t length, size_t from, uint8_t beat) {
+    uint64_t other, same = beat * EACH;
+    for (; from + 8 <= length; from += 8) {
+        other = word(beats + from) ^ same;
+        if (other) return from + __builtin_ctzll(other) / 8;
+    }
+    if (length >= 8 && from < length) {
+        other = (word(beats + length - 8) ^ same) >> 8 * (8 - (length - from));
+        return other ? from + __builtin_ctzll(other) / 8 : length;
+    }
+    while (from < length && beats[from] == beat)
+        from++;
+    return from;
+}
+
+static struct front words_front(const uint8_t *beats, size_t length) {
+    size_t zero = words_skip(beats, length, 0, 1);
+    return (struct front){zero, words_skip(beats, length, zero, 0)};
+}
+
+/* Whether the step moves the 0 behind the found 1, which then goes to the second place. */
+static int dips(const uint8_t *beats, size_t length, struct front front) {
+    return front.one + 1 < length && beats[front.one + 1] == 0 && front.one - front.zero < front.zero;
+}
+
+static uint64_t changes(const uint8_t *beats, size_t length, struct front front) {
+    if (front.one == length) return front.zero == length || front.zero == 1 ? 0 : 2;
+    return dips(beats, length, front) ? 4 : 2;
+}
+
+/* Takes the step, and answers the beats that it changes. */
+static uint64_t step(uint8_t *beats, size_t length, struct front front) {
+    if (front.one == length) {
+        if (front.zero == length || front.zero == 1) return 0;
+        beats[front.zero] = 1;
+        beats[1] = 0;
+        return 2;
+    }
+    int dip = dips(beats, length, front);
+    beats[front.zero] = 1;
+    beats[front.one] = 0;
+    if (!dip) return 2;
+    beats[1] = 0;
+    beats[front.one + 1] = 1;
+    return 4;
+}
+
+uint64_t bytes_next(uint64_t t, uint64_t s, uint8_t *beats, size_t length) {
+    uint64_t refusal = bytes_check(t, s, beats, length).refusal;
+    if (!refusal) step(beats, length, bytes_front(beats, length));
+    return refusal;
+}
+
+uint64_t bytes_next_changed(uint64_t t, uint64_t s, const uint8_t *beats, size_t length) {
+    if (bytes_check(t, s, beats, length).refusal) return 0;
+    return changes(beats, length, bytes_front(beats, length));
+}
+
+uint64_t words_next(uint64_t t, uint64_t s, uint8_t *beats, size_t length) {
+    uint64_t refusal = words_check(t, s, beats, length).refusal;
+    if (!refusal) step(beats, length, words_front(beats, length));
+    return refusal;
+}
+
+uint64_t words_next_changed(uint64_t t, uint64_t s, const uint8_t *beats, size_t length) {
+    if (words_check(t, s, beats, length).refusal) return 0;
+    return changes(beats, length, words_front(beats, length));
+}
+
+/* ---- the run ---- */
+
+static uint64_t run_refusal(uint64_t t, uint64_t s, const uint8_t *beats, size_t length, uint64_t steps) {
+    uint64_t refusal = bytes_check(t, s, beats, length).refusal;
+    return refusal ? refusal : steps > LONGEST_RUN ? 13 : 0;
+}
+
+static uint64_t scan_walk(uint8_t *beats, size_t length, uint64_t steps) {
+    uint64_t sum = 0;
+    while (steps-- > 0)
+        sum += step(beats, length, bytes_front(beats, length));
+    return sum;
+}
+
+/* A step stores a 0 at the found 1 and a 1 at the leftmost 0, which lengthens the ones in front by one. What stands
+   next says where the leftmost 01 is now: a 1 there is it; a 0 there goes to the second place, or, where as many zeros
+   as ones are before it, has the 1 behind it. Past the end the form is ones and then zeros: with both places at the
+   last of the ones the two stores cancel, and the step goes on like one that moves a 0, but changes two beats fewer.
+   These are taken off at once, and added again where the run ends before that step. */
+static uint64_t loopless_walk(uint64_t t, uint8_t *beats, size_t length, uint64_t steps) {
+    struct front front = bytes_front(beats, length);
+    int whole = front.one == length;
+    size_t zero = whole ? t - 1 : front.zero, one = whole ? t - 1 : front.one;
+    uint64_t sum = 2 * steps - 2 * whole;
+    if (t < 2 || t == length) return 0;
+    for (; steps > 0; steps--) {
+        beats[one++] = 0;
+        beats[zero++] = 1;
+        if (one < length) {
+            if (beats[one] == 1) continue;
+            if (one + 1 != 2 * zero) {
+                beats[one] = 1;
+                beats[1] = 0;
+                zero = 1;
+                one = 2;
+                sum += 2;
+                continue;
+            }
+            if (++one < length) continue;
+        }
+        zero = one = t - 1;
+        sum -= 2;
+    }
+    return zero == one ? sum + 2 : sum;
+}
+
+uint64_t scan_run(uint64_t t, uint64_t s, uint8_t *beats, size_t length, uint64_t steps) {
+    uint64_t refusal = run_refusal(t, s, beats, length, steps);
+    if (!refusal) scan_walk(beats, length, steps);
+    return refusal;
+}
+
+uint64_t scan_run_changed(uint64_t t, uint64_t s, const uint8_t *beats, size_t length, uint64_t steps) {
+    uint8_t own[BEATS];
+    if (run_refusal(t, s, beats, length, steps)) return 0;
+    memcpy(own, beats, length);
+    return scan_walk(own, length, steps);
+}
+
+uint64_t loopless_run(uint64_t t, uint64_t s, uint8_t *beats, size_t length, uint64_t steps) {
+    uint64_t refusal = run_refusal(t, s, beats, length, steps);
+    if (!refusal) loopless_walk(t, beats, length, steps);
+    return refusal;
+}
+
+uint64_t loopless_run_changed(uint64_t t, uint64_t s, const uint8_t *beats, size_t length, uint64_t steps) {
+    uint8_t own[BEATS];
+    if (run_refusal(t, s, beats, length, steps)) return 0;
+    memcpy(own, beats, length);
+    return loopless_walk(t, own, length, steps);
+}
+
+/* ---- the number ---- */
+
+/* The beats before the 1 of the leftmost 01 give their count; each 1 from there on adds the groups before its own. */
+uint64_t bytes_number(uint64_t t, uint64_t s, const uint8_t *beats, size_t length) {
+    if (bytes_check(t, s, beats, length).refusal) return 0;
+    struct front front = bytes_front(beats, length);
+    if (front.one == length) return 0;
+    size_t ups = front.zero, downs = front.one - front.zero;
+    uint64_t number = forms[ups][downs];
+    for (size_t k = front.one; k < length; k++) {
+        if (beats[k] == 1) {
+            ups++;
+            number += forms[ups][downs - 1] - 1;
+        } else {
+            downs++;
+        }
+    }
+    return number;
+}
+
+/* Every 1 adds its gain, those in front 0. Ones and then zeros would have the number N, which is 0. */
+static uint64_t closed(uint64_t t, uint64_t s, uint64_t sum, struct front front) {
+    uint64_t number = sum + forms[front.zero][front.one - front.zero];
+    return number == forms[t][s] ? 0 : number;
+}
+
+uint64_t masks_number(uint64_t t, uint64_t s, const uint8_t *beats, size_t length) {
+    if (words_check(t, s, beats, length).refusal) return 0;
+    const uint64_t *at = gains[0];
+    uint64_t sum = 0;
+    for (size_t k = 0; k < length; k++) {
+        uint64_t beat = beats[k];
+        sum += *at & -beat;
+        at += 1 + beat * (SIDE - 1);
+    }
+    return closed(t, s, sum, words_front(beats, length));
+}
+
+/* The beats as the bits of a word, the first in the lowest, where they are t ones and all others 0; else 0. */
+static uint64_t packed(uint64_t t, const uint8_t *beats, size_t length) {
+    uint64_t bits = 0, all = 0, sum = 0;
+    size_t at = 0;
+    for (; at + 8 <= length; at += 8) {
+        uint64_t w = word(beats + at);
+        all |= w;
+        sum += w;
+        bits |= (w * 0x0102040810204080 >> 56) << at;
+    }
+    if (at < length) {
+        uint64_t w = last_word(beats, length);
+        all |= w;
+        sum += w;
+        bits |= (w * 0x0102040810204080 >> 56) << at;
+    }
+    return all & ~EACH || sum * EACH >> 56 != t ? 0 : bits;
+}
+
+uint64_t words_number(uint64_t t, uint64_t s, const uint8_t *beats, size_t length) {
+    if (misfit(t, s, length)) return 0;
+    uint64_t bits = packed(t, beats, length);
+    if (!bits) return 0;
+    uint64_t sum = 0, left = bits;
+    for (const uint64_t *row = gains_at[0]; left; row += BEATS) {
+        sum += row[__builtin_ctzll(left)];
+        left &= left - 1;
+    }
+    if (sum >= BARE) return 0;
+    size_t ups = __builtin_ctzll(~bits);
+    uint64_t behind = bits >> ups;
+    return closed(t, s, sum, (struct front){ups, ups + (behind ? (uint64_t)__builtin_ctzll(behind) : s)});
+}
+
+/* ---- the form ---- */
+
+static uint64_t form_refusal(uint64_t t, uint64_t s, uint64_t number, size_t length) {
+    if (t > LARGEST) return 1;
+    if (s > t) return 2;
+    if (number >= forms[t][s]) return 7;
+    return length != t + s ? 3 : 0;
+}
+
+/* From the last beat on: a 1 belongs to the group of all s set-downs. Ones and then zeros count as the last form, not
+   as 0, so that the number is never 0 and the loop ends at s = 0 as well. */
+uint64_t bytes_form(uint64_t t, uint64_t s, uint64_t number, uint8_t *out, size_t length) {
+    uint64_t refusal = form_refusal(t, s, number, length);
+    if (refusal) return refusal;
+    if (number == 0) number = forms[t][s];
+    while (number < forms[t][s]) {
+        if (number < forms[t][s - 1]) {
+            out[t + s - 1] = 0;
+            s--;
+        } else {
+            out[t + s - 1] = 1;
+            number -= forms[t][s - 1] - 1;
+            t--;
+        }
+    }
+    memset(out, 1, t);
+    memset(out + t, 0, s);
+    return 0;
+}
+
+/* One of two values, by a mask of ones or of zeros. */
+static uint64_t pick(uint64_t mask, uint64_t one, uint64_t other) {
+    return other ^ ((one ^ other) & mask);
+}
+
+/* The two bounds that may come next are loaded before it is known which one does. */
+uint64_t masks_form(uint64_t t, uint64_t s, uint64_t number, uint8_t *out, size_t length) {
+    uint64_t refusal = form_refusal(t, s, number, length);
+    if (refusal) return refusal;
+    uint64_t place = number == 0 ? forms[t][s] - 1 : number - 1;
+    const struct bound *at = &bounds[t][s];
+    uint64_t low = at->low, width = at->width;
+    for (size_t k = length; k-- > 0;) {
+        const struct bound *up = at - SIDE, *down = at - 1;
+        uint64_t one = place - low < width, mask = -one;
+        out[k] = one;
+        place -= low & mask;
+        low = pick(mask, up->low, down->low);
+        width = pick(mask, up->width, down->width);
+        at -= 1 + one * (SIDE - 1);
+    }
+    return 0;
+}

@@ -1,0 +1,45 @@
+/* The library's functions in plain C, to be measured beside it. The first word of a name says how it is done, the
+   rest is the name in include/ghanveltri.h: a function here takes, refuses, answers and leaves what that one does. */
+#ifndef PLAIN_H
+#define PLAIN_H
+
+#include <stddef.h>
+#include <stdint.h>
+
+/* Fills the tables that the others read. Comes before them. */
+void plain_prepare(void);
+
+/* bytes: a loop over the beats for bad beats, and one for the hand. words: the same, eight beats at a time. */
+uint64_t bytes_check_refusal(uint64_t t, uint64_t s, const uint8_t *beats, size_t length);
+uint64_t bytes_check_place(uint64_t t, uint64_t s, const uint8_t *beats, size_t length);
+uint64_t words_check_refusal(uint64_t t, uint64_t s, const uint8_t *beats, size_t length);
+uint64_t words_check_place(uint64_t t, uint64_t s, const uint8_t *beats, size_t length);
+
+/* table: one load. */
+uint64_t table_count_refusal(uint64_t t, uint64_t s);
+uint64_t table_count_place(uint64_t t, uint64_t s);
+uint64_t table_count(uint64_t t, uint64_t s);
+
+/* The check of the same name, then a scan for the leftmost 0 followed by 1, by bytes or by words. */
+uint64_t bytes_next(uint64_t t, uint64_t s, uint8_t *beats, size_t length);
+uint64_t bytes_next_changed(uint64_t t, uint64_t s, const uint8_t *beats, size_t length);
+uint64_t words_next(uint64_t t, uint64_t s, uint8_t *beats, size_t length);
+uint64_t words_next_changed(uint64_t t, uint64_t s, const uint8_t *beats, size_t length);
+
+/* One check, then the steps. scan: each step scans for its place. loopless: each step knows it from the last. */
+uint64_t scan_run(uint64_t t, uint64_t s, uint8_t *beats, size_t length, uint64_t steps);
+uint64_t scan_run_changed(uint64_t t, uint64_t s, const uint8_t *beats, size_t length, uint64_t steps);
+uint64_t loopless_run(uint64_t t, uint64_t s, uint8_t *beats, size_t length, uint64_t steps);
+uint64_t loopless_run_changed(uint64_t t, uint64_t s, const uint8_t *beats, size_t length, uint64_t steps);
+
+/* bytes: the check by bytes and a branch on each beat. masks: the check by words and no branch on a beat.
+   words: the beats packed into a word, of which only the ones are visited. */
+uint64_t bytes_number(uint64_t t, uint64_t s, const uint8_t *beats, size_t length);
+uint64_t masks_number(uint64_t t, uint64_t s, const uint8_t *beats, size_t length);
+uint64_t words_number(uint64_t t, uint64_t s, const uint8_t *beats, size_t length);
+
+/* bytes: a branch on each beat. masks: none. */
+uint64_t bytes_form(uint64_t t, uint64_t s, uint64_t number, uint8_t *out, size_t length);
+uint64_t masks_form(uint64_t t, uint64_t s, uint64_t number, uint8_t *out, size_t length);
+
+#endif

@@ -1,0 +1,43 @@
+-- `circle::walk_copy` meets its contract: the room holds the beats when the walk begins. Assumes nothing.
+use mathlib.Core.List.{List, append-nil}
+use mathlib.Core.Path.{_≡_, _∙_, ap, sym, subst}
+use Prim.Native.Nat.{ℕ}
+use borrow.Author.Needs.{needs}
+use lib.Seq.{take-length, drop-length}
+use Rattle.circle.specs.Walk.{worked}
+use Rattle.circle.specs.Plan.{Form}
+use Rattle.circle.proofs.walk_copy.Statement.{statement}
+use Rattle.circle.proofs.walk_copy.Tie as tie
+
+copy-requires : tie.Need-copy-requires
+copy-requires c κs = search needs
+
+-- the beats are in the room
+module _ (c : tie.After-copy) where
+  abbrev start : tie.Start
+  start = c .before .before .before .before
+
+  abbrev beats : List ℕ
+  beats = start .args .beats .now
+
+  copied : c .copy .last .1 .0 ≡ beats
+  copied =
+      c .copy .ensures .1
+      ∙ rw (take-length beats, ← (start .pre .1), drop-length (start .args .room .now)) (append-nil beats)
+
+walk-requires : tie.Need-walk-requires
+walk-requires c κs =
+    let made = c .before .before .before in
+    (subst Form (sym (copied made)) (start made .pre .0), start made .pre .2)
+
+same-length : tie.Need-same-length
+same-length c = search needs
+
+returns : tie.Need-returns
+returns c =
+    let walked = c .before .before in
+    let made = walked .before .before .before .before in
+    walked .walk .ensures .1 ∙ ap (worked (start made .args .k)) (copied made)
+
+pub walk-copy-spec : {M : Type 1} → statement M
+walk-copy-spec = tie.close (tie.spec copy-requires walk-requires same-length returns)

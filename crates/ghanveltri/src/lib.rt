@@ -1,0 +1,131 @@
+// The library for a C host: document 01, "What we ship". Each function here is a C function on 64-bit
+// numbers and lent bytes, a slice being its pointer and then its length. A call answers one number: the
+// refusal, the place and the value of check, count and number are asked for by a call each; form, next
+// and run answer their refusal, and what next and run would change comes from calls that write nothing.
+// Nothing is kept from call to call. The contracts cite the definitions of the crates below. [W3] [F4]
+ghost use mathlib.Core.Path.{_≡_};
+ghost use Rattle.refusal.specs.Answer.{refusal, place, verdict, value};
+ghost use Rattle.counts.specs.Counts.{counting};
+ghost use Rattle.schedule.specs.Check.{checked};
+ghost use Rattle.circle.specs.Answers.{nextAnswer, nextLeft, runAnswer, runLeft};
+ghost use Rattle.number.specs.Answers.{numberAnswer, formVerdict, formLeft};
+
+// The version, 1.0.0: major * 1000000 + minor * 1000 + patch.
+const VERSION: u64 = 1000000;
+
+// The version of the library.
+#[no_mangle]
+pub extern "C" fn gv_version() -> u64
+    ensures { λ r. do ⌜ r ≡ (← ⟦VERSION⟧ .entry) ⌝ }
+{
+    VERSION
+}
+
+// Whether the beats are a schedule of t ones and s zeros: 0, or the refusal, 1 to 6.
+#[no_mangle]
+pub extern "C" fn gv_check_refusal(t: u64, s: u64, beats: &[u8]) -> u64
+    ensures { λ r. ⌜ r ≡ refusal (checked t s (now (beats .entry))) ⌝ }
+{
+    schedule::check(t, s, beats).refusal()
+}
+
+// The place that goes with that refusal, and 0 where it names none.
+#[no_mangle]
+pub extern "C" fn gv_check_place(t: u64, s: u64, beats: &[u8]) -> u64
+    ensures { λ r. ⌜ r ≡ place (checked t s (now (beats .entry))) ⌝ }
+{
+    schedule::check(t, s, beats).place()
+}
+
+// Whether counts t, s have forms: 0, or the refusal, 1 or 2.
+#[no_mangle]
+pub extern "C" fn gv_count_refusal(t: u64, s: u64) -> u64
+    ensures { λ r. ⌜ r ≡ refusal (verdict (counting t s)) ⌝ }
+{
+    counts::allowed(t, s).refusal()
+}
+
+// The place that goes with that refusal: 0.
+#[no_mangle]
+pub extern "C" fn gv_count_place(t: u64, s: u64) -> u64
+    ensures { λ r. ⌜ r ≡ place (verdict (counting t s)) ⌝ }
+{
+    counts::allowed(t, s).place()
+}
+
+// How many forms there are of counts t, s; 0 after a refusal.
+#[no_mangle]
+pub extern "C" fn gv_count(t: u64, s: u64) -> u64
+    ensures { λ r. ⌜ r ≡ value (counting t s) ⌝ }
+{
+    counts::count(t, s).value()
+}
+
+// Whether the beats have a number: 0, or the refusal, 1 to 6. Asks the check alone.
+#[no_mangle]
+pub extern "C" fn gv_number_refusal(t: u64, s: u64, beats: &[u8]) -> u64
+    ensures { λ r. ⌜ r ≡ refusal (verdict (numberAnswer t s (now (beats .entry)))) ⌝ }
+{
+    gv_check_refusal(t, s, beats)
+}
+
+// The place that goes with that refusal, and 0 where it names none.
+#[no_mangle]
+pub extern "C" fn gv_number_place(t: u64, s: u64, beats: &[u8]) -> u64
+    ensures { λ r. ⌜ r ≡ place (verdict (numberAnswer t s (now (beats .entry)))) ⌝ }
+{
+    gv_check_place(t, s, beats)
+}
+
+// The number of the lent schedule; 0 after a refusal.
+#[no_mangle]
+pub extern "C" fn gv_number(t: u64, s: u64, beats: &[u8]) -> u64
+    ensures { λ r. ⌜ r ≡ value (numberAnswer t s (now (beats .entry))) ⌝ }
+{
+    number::number(t, s, beats).value()
+}
+
+// Writes the form of that number into the t+s lent bytes, and answers 0 or the refusal: 1, 2, 7, then 3.
+// A refusal changes nothing.
+#[no_mangle]
+pub extern "C" fn gv_form(t: u64, s: u64, number: u64, out: &mut [u8]) -> u64
+    ensures { λ r. ⌜ r ≡ refusal (formVerdict t s number (now (out .entry))) ⌝ }
+    ensures { λ _. ⌜ now (out .exit) ≡ formLeft t s number (now (out .entry)) ⌝ }
+{
+    number::form(t, s, number, out).refusal()
+}
+
+// Takes the lent schedule one step on, and answers 0 or the refusal, 1 to 6. A refusal changes nothing.
+#[no_mangle]
+pub extern "C" fn gv_next(t: u64, s: u64, beats: &mut [u8]) -> u64
+    ensures { λ r. ⌜ r ≡ refusal (verdict (nextAnswer t s (now (beats .entry)))) ⌝ }
+    ensures { λ _. ⌜ now (beats .exit) ≡ nextLeft t s (now (beats .entry)) ⌝ }
+{
+    circle::next(t, s, beats).verdict().refusal()
+}
+
+// The beats that gv_next would change, and 0 where it refuses. Writes nothing.
+#[no_mangle]
+pub extern "C" fn gv_next_changed(t: u64, s: u64, beats: &[u8]) -> u64
+    ensures { λ r. ⌜ r ≡ value (nextAnswer t s (now (beats .entry))) ⌝ }
+{
+    circle::changed(t, s, beats).value()
+}
+
+// Takes the lent schedule that many steps on, and answers 0 or the refusal: 1 to 6, then 13. A refusal
+// changes nothing.
+#[no_mangle]
+pub extern "C" fn gv_run(t: u64, s: u64, beats: &mut [u8], steps: u64) -> u64
+    ensures { λ r. ⌜ r ≡ refusal (verdict (runAnswer t s (now (beats .entry)) steps)) ⌝ }
+    ensures { λ _. ⌜ now (beats .exit) ≡ runLeft t s (now (beats .entry)) steps ⌝ }
+{
+    circle::run(t, s, beats, steps).verdict().refusal()
+}
+
+// The beats that gv_run would change at its steps, added up, and 0 where it refuses. Writes nothing.
+#[no_mangle]
+pub extern "C" fn gv_run_changed(t: u64, s: u64, beats: &[u8], steps: u64) -> u64
+    ensures { λ r. ⌜ r ≡ value (runAnswer t s (now (beats .entry)) steps) ⌝ }
+{
+    circle::run_changed(t, s, beats, steps).value()
+}

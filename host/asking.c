@@ -1,0 +1,283 @@
+/* What asking.h declares: reports, a function for each kind of call, and what to expect of one input. */
+#define _DEFAULT_SOURCE
+#include "asking.h"
+
+#include <inttypes.h>
+#include <signal.h>
+#include <stdio.h>
+#include <stdlib.h>
+#include <string.h>
+#include <sys/mman.h>
+#include <unistd.h>
+
+#include "ghanveltri.h"
+#include "independent.h"
+#include "lending.h"
+
+enum { SECONDS = 900 };
+
+static uint64_t seed, calls;
+
+/* The call that is under way. */
+static struct {
+    const char *function;
+    const struct input *in; /* or NULL */
+    int slice;              /* whether it is lent that of in */
+    const char *name;       /* of a further number, or NULL */
+    uint64_t number;
+} asked;
+
+static void begin(const char *call, const struct input *in, int slice, const char *name, uint64_t number) {
+    asked.function = call;
+    asked.in = in;
+    asked.slice = slice;
+    asked.name = name;
+    asked.number = number;
+    calls++;
+}
+
+uint64_t calls_made(void) {
+    return calls;
+}
+
+/* Reports. */
+
+static void print_bytes(const uint8_t *bytes, size_t length) {
+    size_t at;
+    printf("[");
+    for (at = 0; at < length; at++)
+        printf(at == 0 ? "%d" : " %d", bytes[at]);
+    printf("]");
+}
+
+static void print_call(void) {
+    printf("%s(", asked.function);
+    if (asked.in != NULL)
+        printf("t = %" PRIu64 ", s = %" PRIu64, asked.in->t, asked.in->s);
+    if (asked.slice) {
+        printf(", slice = ");
+        print_bytes(asked.in->beats, asked.in->length);
+        printf(", length = %zu", asked.in->length);
+    }
+    if (asked.name != NULL)
+        printf(", %s = %" PRIu64, asked.name, asked.number);
+    printf("): ");
+}
+
+static void give_up(void) {
+    printf("\ncall %" PRIu64 " of seed %" PRIu64 "\n", calls, seed);
+    fflush(stdout);
+    _exit(EXIT_FAILURE);
+}
+
+/* A call does not print, so that printing from here is safe. */
+static void on_signal(int number) {
+    if (asked.function != NULL)
+        print_call();
+    if (number == SIGALRM)
+        printf("no end after %d seconds", SECONDS);
+    else
+        printf("signal %d: it left its slice, or wrote one lent for reading", number);
+    give_up();
+}
+
+void begin_asking(uint64_t seed_given) {
+    seed = seed_given;
+    if (!open_lending()) {
+        printf("there is no memory to lend");
+        give_up();
+    }
+    signal(SIGSEGV, on_signal);
+    signal(SIGBUS, on_signal);
+    signal(SIGILL, on_signal);
+    signal(SIGFPE, on_signal);
+    signal(SIGALRM, on_signal);
+    alarm(SECONDS);
+}
+
+void rely(int holds, const char *what, uint64_t t, uint64_t s) {
+    if (holds)
+        return;
+    printf("host/independent.c, t = %" PRIu64 ", s = %" PRIu64 ": %s", t, s, what);
+    give_up();
+}
+
+static void expect(uint64_t expected, uint64_t got) {
+    if (expected == got)
+        return;
+    print_call();
+    printf("expected %" PRIu64 ", got %" PRIu64, expected, got);
+    give_up();
+}
+
+/* The slice holds what it should after the call, and nothing around it has changed. */
+static void expect_left(const uint8_t *expected) {
+    size_t length = asked.in->length;
+    if (memcmp(lent_bytes(), expected, length) != 0) {
+        print_call();
+        printf("expected to leave ");
+        print_bytes(expected, length);
+        printf(", got ");
+        print_bytes(lent_bytes(), length);
+        give_up();
+    }
+    if (!guards_hold()) {
+        print_call();
+        printf("wrote outside its slice");
+        give_up();
+    }
+}
+
+/* One call each. */
+
+typedef uint64_t counts_function(uint64_t t, uint64_t s);
+typedef uint64_t reading_function(uint64_t t, uint64_t s, const uint8_t *beats, size_t length);
+
+static void ask_counts(const char *name, counts_function *call, const struct input *in, uint64_t expected) {
+    begin(name, in, 0, NULL, 0);
+    expect(expected, call(in->t, in->s));
+}
+
+static void ask_reading(const char *name, reading_function *call, const struct input *in, uint64_t expected) {
+    const uint8_t *beats = lend_for_reading(in->beats, in->length);
+    begin(name, in, 1, NULL, 0);
+    expect(expected, call(in->t, in->s, beats, in->length));
+    expect_left(in->beats);
+}
+
+static void ask_next(const struct input *in, uint64_t refusal, const uint8_t *left) {
+    uint8_t *beats = lend(in->beats, in->length);
+    begin("gv_next", in, 1, NULL, 0);
+    expect(refusal, gv_next(in->t, in->s, beats, in->length));
+    expect_left(left);
+}
+
+static void ask_run(const struct input *in, uint64_t steps, uint64_t refusal, const uint8_t *left) {
+    uint8_t *beats = lend(in->beats, in->length);
+    begin("gv_run", in, 1, "steps", steps);
+    expect(refusal, gv_run(in->t, in->s, beats, in->length, steps));
+    expect_left(left);
+}
+
+static void ask_run_changed(const struct input *in, uint64_t steps, uint64_t changed) {
+    const uint8_t *beats = lend_for_reading(in->beats, in->length);
+    begin("gv_run_changed", in, 1, "steps", steps);
+    expect(changed, gv_run_changed(in->t, in->s, beats, in->length, steps));
+    expect_left(in->beats);
+}
+
+static void ask_form(const struct input *in, uint64_t number, uint64_t refusal, const uint8_t *left) {
+    uint8_t *out = lend(in->beats, in->length);
+    begin("gv_form", in, 1, "number", number);
+    expect(refusal, gv_form(in->t, in->s, number, out, in->length));
+    expect_left(left);
+}
+
+/* What one input should give. */
+
+void verify_version(void) {
+    begin("gv_version", NULL, 0, NULL, 0);
+    expect(GV_VERSION, gv_version());
+}
+
+void verify_counts(uint64_t t, uint64_t s) {
+    struct input in = {t, s, 0, {0}};
+    struct verdict verdict = judge_counts(t, s);
+    ask_counts("gv_count_refusal", gv_count_refusal, &in, verdict.refusal);
+    ask_counts("gv_count_place", gv_count_place, &in, verdict.place);
+    ask_counts("gv_count", gv_count, &in, verdict.refusal != 0 ? 0 : count_by_formula(t, s));
+}
+
+void verify_schedule(const struct input *in) {
+    struct verdict verdict = judge_schedule(in->t, in->s, in->beats, in->length);
+    uint64_t number = 0, changed = 0;
+    uint8_t next[ROOM];
+    memcpy(next, in->beats, in->length);
+    if (verdict.refusal == 0) {
+        number = number_by_groups(in->t, in->s, in->beats);
+        changed = step(in->t, in->s, next);
+        rely(number_by_groups(in->t, in->s, next) == (number + 1) % count_by_formula(in->t, in->s),
+             "a step does not lead to the next number", in->t, in->s);
+    }
+    ask_reading("gv_check_refusal", gv_check_refusal, in, verdict.refusal);
+    ask_reading("gv_check_place", gv_check_place, in, verdict.place);
+    ask_reading("gv_number_refusal", gv_number_refusal, in, verdict.refusal);
+    ask_reading("gv_number_place", gv_number_place, in, verdict.place);
+    ask_reading("gv_number", gv_number, in, number);
+    ask_reading("gv_next_changed", gv_next_changed, in, changed);
+    ask_next(in, verdict.refusal, next);
+}
+
+void verify_run(const struct input *in, uint64_t steps) {
+    struct verdict verdict = judge_run(in->t, in->s, in->beats, in->length, steps);
+    uint64_t changed = 0;
+    uint8_t left[ROOM];
+    memcpy(left, in->beats, in->length);
+    if (verdict.refusal == 0)
+        changed = walk(in->t, in->s, left, steps);
+    ask_run(in, steps, verdict.refusal, left);
+    ask_run_changed(in, steps, changed);
+}
+
+void verify_form(const struct input *in, uint64_t number) {
+    struct verdict verdict = judge_form(in->t, in->s, number, in->length);
+    uint8_t left[ROOM];
+    memcpy(left, in->beats, in->length);
+    if (verdict.refusal == 0) {
+        form_by_groups(in->t, in->s, number, left);
+        rely(is_schedule(in->t, in->s, left, in->length), "the form of a number is none", in->t, in->s);
+    }
+    ask_form(in, number, verdict.refusal, left);
+}
+
+/* The long slice: t + s in its low half. */
+static const size_t LONG_LENGTH = ((size_t)1 << 32) + 5;
+
+/* So many zeros, in memory that cannot be written. */
+static const uint8_t *map_zeros(size_t length) {
+    void *zeros = mmap(NULL, length, PROT_READ, MAP_PRIVATE | MAP_ANONYMOUS | MAP_NORESERVE, -1, 0);
+    if (zeros == MAP_FAILED) {
+        printf("there is no memory for a slice of %zu bytes", length);
+        give_up();
+    }
+    return (const uint8_t *)zeros;
+}
+
+static void ask_long(const char *name, reading_function *call, const uint8_t *zeros, uint64_t expected) {
+    static const struct input in = {4, 1, 0, {0}};
+    begin(name, &in, 0, "length", LONG_LENGTH);
+    expect(expected, call(in.t, in.s, zeros, LONG_LENGTH));
+}
+
+/* The functions that write, as ones that read: a slice of the wrong length is not written. */
+
+static uint64_t form_of_zeros(uint64_t t, uint64_t s, const uint8_t *out, size_t length) {
+    return gv_form(t, s, 0, (uint8_t *)out, length);
+}
+
+static uint64_t next_of_zeros(uint64_t t, uint64_t s, const uint8_t *beats, size_t length) {
+    return gv_next(t, s, (uint8_t *)beats, length);
+}
+
+static uint64_t run_of_zeros(uint64_t t, uint64_t s, const uint8_t *beats, size_t length) {
+    return gv_run(t, s, (uint8_t *)beats, length, 1);
+}
+
+static uint64_t run_changed_of_zeros(uint64_t t, uint64_t s, const uint8_t *beats, size_t length) {
+    return gv_run_changed(t, s, beats, length, 1);
+}
+
+void verify_long_slice(void) {
+    const uint8_t *zeros = map_zeros(LONG_LENGTH);
+    ask_long("gv_check_refusal", gv_check_refusal, zeros, 3);
+    ask_long("gv_check_place", gv_check_place, zeros, 0);
+    ask_long("gv_number_refusal", gv_number_refusal, zeros, 3);
+    ask_long("gv_number_place", gv_number_place, zeros, 0);
+    ask_long("gv_number", gv_number, zeros, 0);
+    ask_long("gv_form", form_of_zeros, zeros, 3);
+    ask_long("gv_next", next_of_zeros, zeros, 3);
+    ask_long("gv_next_changed", gv_next_changed, zeros, 0);
+    ask_long("gv_run", run_of_zeros, zeros, 3);
+    ask_long("gv_run_changed", run_changed_of_zeros, zeros, 0);
+    munmap((void *)zeros, LONG_LENGTH);
+}

@@ -1,0 +1,48 @@
+/*
+ * Asks the functions of include/ghanveltri.h and holds each answer, and every byte that is left in and around
+ * its slice, to what host/independent.c gives. The first difference ends the program with status 1, after its
+ * call, the answer expected and the one got, and the seed are printed.
+ */
+#ifndef ASKING_H
+#define ASKING_H
+
+#include <stddef.h>
+#include <stdint.h>
+
+enum { ROOM = 80 };
+
+/* Counts, and a slice. */
+struct input {
+    uint64_t t, s;
+    size_t length;
+    uint8_t beats[ROOM];
+};
+
+/* Makes the memory to lend, and reports a call that ends in a signal or does not end. */
+void begin_asking(uint64_t seed);
+
+/* How many calls there were. */
+uint64_t calls_made(void);
+
+/* gv_version. */
+void verify_version(void);
+
+/* gv_count and what belongs to it. */
+void verify_counts(uint64_t t, uint64_t s);
+
+/* Everything that is asked of counts and a slice alone: check, number, next. */
+void verify_schedule(const struct input *in);
+
+/* gv_run and gv_run_changed. */
+void verify_run(const struct input *in, uint64_t steps);
+
+/* gv_form; the slice is lent to be written. */
+void verify_form(const struct input *in, uint64_t number);
+
+/* A slice of 2^32 + 5 bytes, whose length is t + s in its low half alone. */
+void verify_long_slice(void);
+
+/* Ends the program where host/independent.c is itself not as it should be for t, s. */
+void rely(int holds, const char *what, uint64_t t, uint64_t s);
+
+#endif

@@ -1,0 +1,454 @@
+/*
+ * Holds every function of include/ghanveltri.h to host/independent.c: differential [--brief] [SEED].
+ *
+ * Exhaustive for small counts and short lists, random for the rest; host/asking.c makes the calls. The random
+ * part comes from a new seed, which is printed; giving it repeats a run. --brief makes every part smaller.
+ * Ends with status 1 at the first difference.
+ */
+#define _POSIX_C_SOURCE 200809L
+#include <inttypes.h>
+#include <stdio.h>
+#include <stdlib.h>
+#include <string.h>
+#include <time.h>
+
+#include "asking.h"
+#include "independent.h"
+
+/* How far each part goes. */
+static struct extent {
+    uint64_t small_count;  /* every form of counts up to this */
+    uint64_t damage_count; /* every damage of every form of counts up to this */
+    size_t two, three;     /* every list of 0 and 1, and of 0, 1 and 2, up to these lengths */
+    unsigned large;        /* random forms for each pair of counts */
+    unsigned mixed;        /* random calls of every kind */
+    unsigned runs;         /* long runs */
+} extent = {9, 7, 12, 7, 100, 200000, 100};
+
+static const struct extent BRIEF = {9, 6, 8, 6, 20, 20000, 16};
+
+/* Randomness. */
+
+static uint64_t state;
+
+/* 64 random bits (splitmix64). */
+static uint64_t some(void) {
+    uint64_t z = state += UINT64_C(0x9E3779B97F4A7C15);
+    z = (z ^ z >> 30) * UINT64_C(0xBF58476D1CE4E5B9);
+    z = (z ^ z >> 27) * UINT64_C(0x94D049BB133111EB);
+    return z ^ z >> 31;
+}
+
+/* A random number below n, which is not 0. */
+static uint64_t below(uint64_t n) {
+    return some() % n;
+}
+
+/* A number on an edge of a width or a limit, or up to 3 beside it, past 0 and 2^64 too. */
+static uint64_t some_edge(void) {
+    static const uint64_t edges[] = {0, 32, 64, 256, 65536, UINT64_C(1) << 32, UINT64_C(1) << 63};
+    return edges[below(sizeof edges / sizeof edges[0])] + below(7) - 3;
+}
+
+/* Mostly the number given; else an edge, any number, or one of which the given one is the low half. */
+static uint64_t some_number(uint64_t likely) {
+    switch (below(8)) {
+    case 0:
+        return some_edge();
+    case 1:
+        return some() >> below(64);
+    case 2:
+        return likely + (below(UINT64_C(1) << 31) << 32);
+    default:
+        return likely;
+    }
+}
+
+/* A form of allowed counts. */
+static void some_form(struct input *in, uint64_t t, uint64_t s) {
+    in->t = t;
+    in->s = s;
+    in->length = t + s;
+    form_by_groups(t, s, below(count_by_formula(t, s)), in->beats);
+}
+
+/* Changes a beat, exchanges two, or makes the slice shorter or longer. */
+static void damage(struct input *in) {
+    size_t a = below(in->length + 1), b = below(in->length + 1);
+    uint8_t kept = in->beats[a];
+    switch (below(5)) {
+    case 0:
+        in->beats[a] ^= 1;
+        break;
+    case 1:
+        in->beats[a] = (uint8_t)some();
+        break;
+    case 2:
+        in->beats[a] = in->beats[b];
+        in->beats[b] = kept;
+        break;
+    case 3:
+        in->length = a;
+        break;
+    default:
+        in->length = below(ROOM);
+    }
+}
+
+/* The examples of document 01. */
+
+/* The forms of t, s in the order of their numbers, and the beats that the step from each changes. */
+struct example {
+    uint64_t t, s;
+    const char *forms[6];
+    uint64_t changed[5];
+};
+
+/* "Examples on both sides". The changed beats of (3, 3) are counted by hand. */
+static const struct example EXAMPLES[] = {
+    {3, 2, {"11100", "10110", "11010", "10101", "11001"}, {2, 2, 4, 2, 2}},
+    {3, 3, {"111000", "101100", "110100", "101010", "110010"}, {2, 2, 4, 2, 2}},
+    {2, 1, {"110", "101"}, {2, 2}},
+    {1, 1, {"10"}, {0}},
+    {4, 0, {"1111"}, {0}},
+    {0, 0, {""}, {0}},
+};
+
+static void read_digits(struct input *in, uint64_t t, uint64_t s, const char *digits) {
+    size_t at;
+    in->t = t;
+    in->s = s;
+    in->length = strlen(digits);
+    for (at = 0; at < in->length; at++)
+        in->beats[at] = (uint8_t)(digits[at] - '0');
+}
+
+static void verify_example(const struct example *example) {
+    uint64_t number;
+    for (number = 0; example->forms[number] != NULL; number++) {
+        struct input in = {0};
+        uint8_t left[ROOM];
+        read_digits(&in, example->t, example->s, example->forms[number]);
+        rely(number_by_groups(in.t, in.s, in.beats) == number, "an example has another number", in.t, in.s);
+        memcpy(left, in.beats, in.length);
+        rely(step(in.t, in.s, left) == example->changed[number], "an example's step differs", in.t, in.s);
+        verify_schedule(&in);
+        verify_run(&in, number);
+        verify_form(&in, number);
+    }
+    rely(count_by_formula(example->t, example->s) == number, "an example's count", example->t, example->s);
+    verify_counts(example->t, example->s);
+}
+
+static void verify_refusal(uint64_t t, uint64_t s, const char *digits, uint64_t refusal, uint64_t place) {
+    struct input in = {0};
+    struct verdict verdict;
+    read_digits(&in, t, s, digits);
+    verdict = judge_schedule(t, s, in.beats, in.length);
+    rely(verdict.refusal == refusal && verdict.place == place, "an example's refusal differs", t, s);
+    verify_schedule(&in);
+    verify_counts(t, s);
+}
+
+static void refused_examples(void) {
+    struct input in = {0};
+    verify_refusal(33, 0, "", 1, 0);
+    verify_refusal(2, 3, "", 2, 0);
+    verify_refusal(2, 1, "111", 6, 0);
+    verify_refusal(2, 2, "1001", 5, 2);
+    verify_refusal(2, 1, "11", 3, 0);
+    read_digits(&in, 3, 2, "11010");
+    rely(judge_form(3, 2, 4, 5).refusal == 0 && judge_form(3, 2, 5, 5).refusal == 7, "number 4 or 5", 3, 2);
+    rely(judge_run(3, 2, in.beats, 5, 65535).refusal == 0, "run 65535", 3, 2);
+    rely(judge_run(3, 2, in.beats, 5, 65536).refusal == 13, "run 65536", 3, 2);
+}
+
+static void examples(void) {
+    size_t at;
+    for (at = 0; at < sizeof EXAMPLES / sizeof EXAMPLES[0]; at++)
+        verify_example(&EXAMPLES[at]);
+    refused_examples();
+    rely(count_by_formula(5, 3) == 28 && count_by_formula(8, 5) == 572, "an example's count", 8, 5);
+    rely(count_by_formula(32, 31) == UINT64_C(55534064877048198), "the largest count", 32, 31);
+    rely(count_by_formula(32, 32) == UINT64_C(55534064877048198), "the largest count", 32, 32);
+}
+
+/* The two ways of host/independent.c. */
+
+/* How many of all lists of zeros and ones are schedules of t, s. */
+static uint64_t count_by_trying(uint64_t t, uint64_t s) {
+    uint64_t list, found = 0;
+    for (list = 0; list >> (t + s) == 0; list++) {
+        uint8_t beats[ROOM];
+        size_t at;
+        for (at = 0; at < t + s; at++)
+            beats[at] = list >> at & 1;
+        found += is_schedule(t, s, beats, t + s);
+    }
+    return found;
+}
+
+/* The form of each number is what as many steps lead to, and the circle closes when all forms were met. */
+static void hold_ways_together(uint64_t t, uint64_t s) {
+    uint8_t first[ROOM], walked[ROOM], grouped[ROOM];
+    uint64_t number, forms = count_by_formula(t, s);
+    rely(forms == count_by_trying(t, s), "the formula counts otherwise than trying all lists", t, s);
+    write_first(t, s, first);
+    memcpy(walked, first, t + s);
+    for (number = 0; number < forms; number++) {
+        rely(number == 0 || memcmp(walked, first, t + s) != 0, "the circle closes early", t, s);
+        form_by_groups(t, s, number, grouped);
+        rely(memcmp(walked, grouped, t + s) == 0, "walking and the groups differ", t, s);
+        rely(number_by_groups(t, s, walked) == number, "walking and the groups number otherwise", t, s);
+        step(t, s, walked);
+    }
+    rely(memcmp(walked, first, t + s) == 0, "the circle does not close", t, s);
+}
+
+static void two_ways(void) {
+    uint64_t t, s;
+    for (t = 0; t <= extent.small_count; t++)
+        for (s = 0; s <= t; s++)
+            hold_ways_together(t, s);
+}
+
+/* Small counts and short lists: everything. */
+
+/* The numbers at the ends and past the last form, with every length up to past t + s. */
+static void verify_form_edges(uint64_t t, uint64_t s) {
+    uint64_t forms = count_by_formula(t, s);
+    uint64_t numbers[] = {0, forms - 1, forms, forms + 1, forms - 1 + (UINT64_C(1) << 32), UINT64_MAX};
+    struct input in = {t, s, 0, {0}};
+    size_t at;
+    memset(in.beats, 2, ROOM);
+    for (in.length = 0; in.length <= t + s + 4; in.length++)
+        for (at = 0; at < sizeof numbers / sizeof numbers[0]; at++)
+            verify_form(&in, numbers[at]);
+}
+
+static void verify_small_form(uint64_t t, uint64_t s, uint64_t number, const uint8_t *beats) {
+    struct input in = {t, s, t + s, {0}};
+    memset(in.beats, (int)(number % 7), t + s);
+    verify_form(&in, number);
+    memcpy(in.beats, beats, t + s);
+    verify_schedule(&in);
+    verify_run(&in, 0);
+    verify_run(&in, 1);
+    verify_run(&in, 2);
+    verify_run(&in, 3 + below(40));
+    verify_run(&in, 65536);
+    verify_run(&in, UINT64_MAX);
+    if (number % 16 == 0)
+        verify_run(&in, count_by_formula(t, s));
+}
+
+static void small_forms(void) {
+    uint64_t t, s, number;
+    uint8_t beats[ROOM];
+    for (t = 0; t <= extent.small_count; t++)
+        for (s = 0; s <= t; s++) {
+            verify_form_edges(t, s);
+            write_first(t, s, beats);
+            for (number = 0; number < count_by_formula(t, s); number++) {
+                verify_small_form(t, s, number, beats);
+                step(t, s, beats);
+            }
+        }
+}
+
+/* A form with each of its beats made another, and with one beat fewer or more. */
+static void verify_damages(struct input *in) {
+    static const uint8_t wrong[] = {2, 3, 128, 129, 254, 255};
+    size_t at, length = in->length;
+    for (at = 0; at < length; at++) {
+        uint8_t right = in->beats[at];
+        in->beats[at] = !right;
+        verify_schedule(in);
+        in->beats[at] = wrong[below(sizeof wrong)];
+        verify_schedule(in);
+        in->beats[at] = right;
+    }
+    in->beats[length] = (uint8_t)below(3);
+    in->length = length + 1;
+    verify_schedule(in);
+    in->length = length > 0 ? length - 1 : 2;
+    verify_schedule(in);
+}
+
+static void damaged_forms(void) {
+    uint64_t t, s, number;
+    for (t = 0; t <= extent.damage_count; t++)
+        for (s = 0; s <= t; s++)
+            for (number = 0; number < count_by_formula(t, s); number++) {
+                struct input in = {t, s, t + s, {0}};
+                form_by_groups(t, s, number, in.beats);
+                verify_damages(&in);
+            }
+}
+
+/* The list after this one, of beats below base, and whether there is one; the first is all zeros. */
+static int next_list(struct input *in, uint8_t base) {
+    size_t at;
+    for (at = 0; at < in->length; at++) {
+        in->beats[at]++;
+        if (in->beats[at] < base)
+            return 1;
+        in->beats[at] = 0;
+    }
+    return 0;
+}
+
+/* A list for all counts up to past the limit. */
+static void verify_list(struct input *in) {
+    static const uint64_t steps[] = {0, 1, 2, 65536, UINT64_MAX};
+    for (in->t = 0; in->t <= 33; in->t++)
+        for (in->s = 0; in->s <= 34; in->s++) {
+            verify_schedule(in);
+            verify_run(in, steps[(in->t + in->beats[0]) % 5]);
+        }
+}
+
+static void lists_of_two(void) {
+    struct input in = {0};
+    for (in.length = 0; in.length <= extent.two; in.length++)
+        do
+            verify_list(&in);
+        while (next_list(&in, 2));
+}
+
+static void lists_of_three(void) {
+    struct input in = {0};
+    for (in.length = 0; in.length <= extent.three; in.length++)
+        do
+            for (in.t = 0; in.t <= in.length; in.t++) {
+                in.s = in.length - in.t;
+                verify_schedule(&in);
+                verify_run(&in, 65536);
+            }
+        while (next_list(&in, 3));
+}
+
+/* The rest: random. */
+
+static void counts(void) {
+    uint64_t t, s;
+    unsigned turn;
+    for (t = 0; t <= 300; t++)
+        for (s = 0; s <= 300; s++)
+            verify_counts(t, s);
+    for (turn = 0; turn < extent.mixed; turn++)
+        verify_counts(some_number(below(40)), some_number(below(40)));
+}
+
+static void large_forms(void) {
+    uint64_t t, s;
+    unsigned turn;
+    struct input in = {0};
+    for (t = 0; t <= MOST_TASKS; t++)
+        for (s = 0; s <= t; s++) {
+            verify_form_edges(t, s);
+            for (turn = 0; turn < extent.large; turn++) {
+                some_form(&in, t, s);
+                verify_schedule(&in);
+                verify_run(&in, below(100));
+                verify_run(&in, some_number(65536));
+                verify_form(&in, below(count_by_formula(t, s)));
+                damage(&in);
+                verify_schedule(&in);
+            }
+        }
+}
+
+/* A number around the last form of counts, which may not be allowed. */
+static uint64_t some_form_number(const struct input *in) {
+    if (judge_counts(in->t, in->s).refusal != 0)
+        return some_number(below(100));
+    return some_number(below(count_by_formula(in->t, in->s) + 1));
+}
+
+/* Counts, slices, numbers and steps of every kind, most of them allowed or nearly so. */
+static void mixed(void) {
+    unsigned turn;
+    struct input in = {0};
+    for (turn = 0; turn < extent.mixed; turn++) {
+        uint64_t t = below(MOST_TASKS + 1);
+        some_form(&in, t, below(t + 1));
+        if (turn % 2 == 0)
+            damage(&in);
+        if (turn % 4 == 3)
+            in.t = some_number(in.t);
+        if (turn % 8 > 5)
+            in.s = some_number(in.s);
+        verify_schedule(&in);
+        verify_run(&in, turn % 3 == 0 ? 65536 + below(UINT64_MAX - 65536) : below(20));
+        verify_form(&in, some_form_number(&in));
+    }
+}
+
+/* The longest runs, and those past them, from forms of all sizes. */
+static void long_runs(void) {
+    unsigned turn;
+    for (turn = 0; turn < extent.runs; turn++) {
+        struct input in = {0};
+        uint64_t t = turn % 4 == 0 ? below(6) : below(MOST_TASKS + 1);
+        some_form(&in, t, turn % 4 == 1 ? t : below(t + 1));
+        verify_run(&in, turn % 8 == 7 ? below(65536) : 65535);
+        verify_run(&in, 65536);
+        verify_run(&in, (UINT64_C(65535) << 32) + below(3));
+        verify_run(&in, UINT64_MAX);
+    }
+}
+
+static const struct {
+    const char *name;
+    void (*run)(void);
+} PARTS[] = {
+    {"version", verify_version},
+    {"two ways of the independent side", two_ways},
+    {"examples", examples},
+    {"small forms", small_forms},
+    {"damaged forms", damaged_forms},
+    {"lists of 0 and 1", lists_of_two},
+    {"lists of 0, 1 and 2", lists_of_three},
+    {"counts", counts},
+    {"large forms", large_forms},
+    {"mixed", mixed},
+    {"long runs", long_runs},
+    {"long slice", verify_long_slice},
+};
+
+static void run_parts(void) {
+    size_t at;
+    for (at = 0; at < sizeof PARTS / sizeof PARTS[0]; at++) {
+        uint64_t before = calls_made();
+        PARTS[at].run();
+        printf("%s: %" PRIu64 " calls\n", PARTS[at].name, calls_made() - before);
+        fflush(stdout);
+    }
+}
+
+static uint64_t seed_of_clock(void) {
+    struct timespec now;
+    clock_gettime(CLOCK_REALTIME, &now);
+    return (uint64_t)now.tv_sec * 1000000000 + (uint64_t)now.tv_nsec;
+}
+
+int main(int argc, char **argv) {
+    char *end = "";
+    uint64_t seed = seed_of_clock();
+    int brief = argc > 1 && strcmp(argv[1], "--brief") == 0;
+    if (brief)
+        extent = BRIEF;
+    if (argc > 1 + brief)
+        seed = strtoull(argv[1 + brief], &end, 10);
+    if (argc > 2 + brief || *end != '\0') {
+        fprintf(stderr, "usage: differential [--brief] [SEED]\n");
+        return 2;
+    }
+    printf("seed %" PRIu64 "\n", seed);
+    state = seed;
+    begin_asking(seed);
+    run_parts();
+    printf("%" PRIu64 " calls, no difference\n", calls_made());
+    return EXIT_SUCCESS;
+}

@@ -1,0 +1,49 @@
+/*
+ * Document 01 once more, in plain C, for host/differential.c: written from its words, for clarity and not for
+ * speed, and sharing no code and no limit with crates/ or include/.
+ *
+ * A number is found in two ways. By the steps of the rule, which is what a number is, where there are few
+ * forms; by the groups of list S ("A second fact") and the closed formula, where there are too many to walk.
+ * host/differential.c holds the two to each other.
+ */
+#ifndef INDEPENDENT_H
+#define INDEPENDENT_H
+
+#include <stddef.h>
+#include <stdint.h>
+
+enum { MOST_TASKS = 32, MOST_BEATS = 64, MOST_STEPS = 65535 };
+
+/* A refusal's number and place, both 0 for an accepted call. */
+struct verdict {
+    uint64_t refusal, place;
+};
+
+/* What each call is refused for, in 01's order; the lengths are of the lent slices. */
+struct verdict judge_counts(uint64_t t, uint64_t s);
+struct verdict judge_schedule(uint64_t t, uint64_t s, const uint8_t *beats, size_t length);
+struct verdict judge_form(uint64_t t, uint64_t s, uint64_t number, size_t length);
+struct verdict judge_run(uint64_t t, uint64_t s, const uint8_t *beats, size_t length, uint64_t steps);
+
+/* "A schedule", literally. */
+int is_schedule(uint64_t t, uint64_t s, const uint8_t *beats, size_t length);
+
+/* The rest is asked of allowed counts, of schedules of them, and of numbers below the count only. */
+
+/* N(t, s) by the closed formula. */
+uint64_t count_by_formula(uint64_t t, uint64_t s);
+
+/* t ones and then s zeros, the form of number 0. */
+void write_first(uint64_t t, uint64_t s, uint8_t *out);
+
+/* "The step", literally, in place; answers the beats that it changed. */
+uint64_t step(uint64_t t, uint64_t s, uint8_t *beats);
+
+/* As many steps; answers the beats changed at each, added up. */
+uint64_t walk(uint64_t t, uint64_t s, uint8_t *beats, uint64_t steps);
+
+/* The number of a form and the form of a number, by the groups of list S. */
+uint64_t number_by_groups(uint64_t t, uint64_t s, const uint8_t *beats);
+void form_by_groups(uint64_t t, uint64_t s, uint64_t number, uint8_t *out);
+
+#endif

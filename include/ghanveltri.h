@@ -1,0 +1,144 @@
+/*
+ * ghanveltri.h: numbered task schedules, for C99 and C++. Link with libghanveltri.a (x86-64). [W3] [F4]
+ *
+ * A schedule of counts t, s is t + s bytes, its beats: t of them are 1 (a task is taken up), s are 0 (one is
+ * set down), and none sets down with nothing in hand. The schedules of one pair of counts, its forms, stand
+ * on a circle, each one step from the last. A form's number is how many steps lead to it from t ones and
+ * then s zeros, the form of number 0. Beats and places are counted from 0.
+ *
+ * Rules for every function:
+ * - It takes every number and every content of the lent bytes, and ends. It does its work, or refuses by one
+ *   of the numbers below. A refused call leaves every lent byte as it was.
+ * - It answers one number. Where a call has more to answer, each part has a function of its own: `_refusal`
+ *   answers GV_ACCEPTED or the refusal, `_place` the beat at fault, or 0 where there is none, and the
+ *   function without such an ending the value, 0 after a refusal.
+ * - A slice is a pointer and, right behind it, its length in bytes. Nothing outside the slice is read or
+ *   written, and a slice that is lent as const is only read.
+ * - The caller owes a pointer that is valid for the length, and is not NULL even if the length is 0; slices
+ *   of one call that do not overlap; and that nobody else writes a slice during the call, nor reads one that
+ *   is not const.
+ * - It keeps no pointer, allocates no memory, reads and writes no file, and has no state that calls share:
+ *   any number of threads may call at the same time.
+ *
+ * The marks in brackets are claims of docs/CLAIMS.md, which leads from them to the proofs.
+ */
+#ifndef GHANVELTRI_H
+#define GHANVELTRI_H
+
+#include <stddef.h>
+#include <stdint.h>
+
+#ifdef __cplusplus
+extern "C" {
+#endif
+
+/* The version of this header. A new major version may ask callers to change. */
+#define GV_VERSION_MAJOR 1
+#define GV_VERSION_MINOR 0
+#define GV_VERSION_PATCH 0
+#define GV_VERSION (GV_VERSION_MAJOR * 1000000 + GV_VERSION_MINOR * 1000 + GV_VERSION_PATCH)
+
+#define GV_LARGEST_COUNT 32    /* the largest t; s is at most t */
+#define GV_LONGEST_SCHEDULE 64 /* the largest t + s */
+#define GV_LONGEST_RUN 65535   /* the most steps of a run */
+
+/*
+ * The refusals. A number never changes its meaning; new ones follow the last. The functions below give 1 to 7
+ * and 13. The others are of parts of the library that have no C function: tree tables (8), order records (9
+ * to 12) and sheets (12). [R1] [R2]
+ */
+#define GV_ACCEPTED 0          /* no refusal */
+#define GV_TOO_MANY_TASKS 1    /* t is above GV_LARGEST_COUNT */
+#define GV_MORE_DOWN_THAN_UP 2 /* s is above t */
+#define GV_WRONG_LENGTH 3      /* the slice is not t + s bytes long */
+#define GV_BAD_BEAT 4          /* a beat is neither 0 nor 1; the place is the first such beat */
+#define GV_EMPTY_HAND 5        /* a beat sets down with nothing in hand; the place is the first such beat */
+#define GV_WRONG_TAKE_UPS 6    /* the ones are not t */
+#define GV_NO_SUCH_NUMBER 7    /* the number is not below the count of forms */
+#define GV_NO_SUCH_TABLES 8    /* no schedule has these tree tables */
+#define GV_CUT_SHORT 9         /* a record is cut short, or says that it is longer than any */
+#define GV_UNKNOWN_KIND 10     /* a record is of an unknown kind */
+#define GV_WRONG_SIZE 11       /* a record's length is wrong for its kind, or its unused bits are not 0 */
+#define GV_NO_ROOM 12          /* not enough room is lent, or a sheet is too short */
+#define GV_RUN_TOO_LONG 13     /* the steps are above GV_LONGEST_RUN */
+
+/* The library takes lengths of 64 bits: where size_t has another width this line does not compile. */
+typedef char gv_size_t_has_64_bits[sizeof(size_t) == 8 ? 1 : -1];
+
+/*
+ * The version of the library, major * 1000000 + minor * 1000 + patch. It is GV_VERSION where the header and
+ * the library are of one version.
+ */
+uint64_t gv_version(void);
+
+/*
+ * Is this a schedule of t, s?
+ * gv_check_refusal answers GV_ACCEPTED, or the first of these that holds: GV_TOO_MANY_TASKS,
+ * GV_MORE_DOWN_THAN_UP, GV_WRONG_LENGTH, GV_BAD_BEAT, GV_EMPTY_HAND, GV_WRONG_TAKE_UPS. A bad beat goes
+ * before an empty hand even if it comes later in the schedule.
+ * gv_check_place answers the beat at fault after GV_BAD_BEAT and GV_EMPTY_HAND, and else 0.
+ * In: t, s, beats. Writes nothing. [R4] [R5] [R9]
+ */
+uint64_t gv_check_refusal(uint64_t t, uint64_t s, const uint8_t *beats, size_t length);
+uint64_t gv_check_place(uint64_t t, uint64_t s, const uint8_t *beats, size_t length);
+
+/*
+ * How many forms have the counts t, s?
+ * gv_count_refusal answers GV_ACCEPTED, or the first of these that holds: GV_TOO_MANY_TASKS,
+ * GV_MORE_DOWN_THAN_UP.
+ * gv_count_place answers 0: no beat is at fault.
+ * gv_count answers how many, 1 to 55534064877048198, and 0 after a refusal.
+ * In: t, s. [R3] [R10] [N1]
+ */
+uint64_t gv_count_refusal(uint64_t t, uint64_t s);
+uint64_t gv_count_place(uint64_t t, uint64_t s);
+uint64_t gv_count(uint64_t t, uint64_t s);
+
+/*
+ * Which number has this form?
+ * gv_number_refusal and gv_number_place answer what gv_check_refusal and gv_check_place answer.
+ * gv_number answers the number, which is below gv_count(t, s), and 0 after a refusal. The form of t ones and
+ * then s zeros has number 0 too, so ask for the refusal where there may be one.
+ * In: t, s, beats. Writes nothing. [M1] [M2] [M3] [D2e] [D2f]
+ */
+uint64_t gv_number_refusal(uint64_t t, uint64_t s, const uint8_t *beats, size_t length);
+uint64_t gv_number_place(uint64_t t, uint64_t s, const uint8_t *beats, size_t length);
+uint64_t gv_number(uint64_t t, uint64_t s, const uint8_t *beats, size_t length);
+
+/*
+ * Writes the form of a number.
+ * Answers GV_ACCEPTED, or the first of these that holds: GV_TOO_MANY_TASKS, GV_MORE_DOWN_THAN_UP,
+ * GV_NO_SUCH_NUMBER, GV_WRONG_LENGTH. Its place is 0.
+ * In: t, s, number. Out: the t + s bytes at `out`, which may hold anything before, hold the form; after a
+ * refusal, what they held. [R14] [R16] [D2e] [D2f]
+ */
+uint64_t gv_form(uint64_t t, uint64_t s, uint64_t number, uint8_t *out, size_t length);
+
+/*
+ * Takes a form one step on.
+ * gv_next answers what gv_check_refusal answers; the place of a refusal is gv_check_place's.
+ * gv_next_changed answers how many beats gv_next would change, 0, 2 or 4, and 0 after a refusal. It writes
+ * nothing.
+ * In: t, s, beats. Out, gv_next alone: beats hold the next form; after a refusal, what they held.
+ * [D2a] [D3d] [S5] [S7]
+ */
+uint64_t gv_next(uint64_t t, uint64_t s, uint8_t *beats, size_t length);
+uint64_t gv_next_changed(uint64_t t, uint64_t s, const uint8_t *beats, size_t length);
+
+/*
+ * Takes a form many steps on, round the circle again where there are more steps than forms.
+ * gv_run answers what gv_check_refusal answers, and then GV_RUN_TOO_LONG; the place of a refusal is
+ * gv_check_place's.
+ * gv_run_changed answers how many beats gv_run would change, added up over its steps, and 0 after a refusal.
+ * It writes nothing.
+ * In: t, s, beats, steps. Out, gv_run alone: beats hold the form that many steps on; after a refusal, what
+ * they held. [D2g] [D3g] [R6] [S6]
+ */
+uint64_t gv_run(uint64_t t, uint64_t s, uint8_t *beats, size_t length, uint64_t steps);
+uint64_t gv_run_changed(uint64_t t, uint64_t s, const uint8_t *beats, size_t length, uint64_t steps);
+
+#ifdef __cplusplus
+}
+#endif
+
+#endif
