@@ -14,6 +14,10 @@ ROW = re.compile(r"\| ([A-Z]+\d+[a-z]?) \|(.*)\|(.*)\|(.*)\|")
 PLACE = re.compile(r"`([\w./-]+)(?:#([^`]+))?`")
 
 
+def has(text, name):
+    return re.search(rf"(?<![\w′-]){re.escape(name)}(?![\w′-])", text)
+
+
 def faults(claim, kinds, where):
     for kind in kinds:
         if kind not in KINDS:
@@ -25,7 +29,7 @@ def faults(claim, kinds, where):
         file = ROOT / path
         if not file.exists():
             yield f"{claim}: there is no {path}"
-        elif name and not re.search(rf"(?<![\w′-]){re.escape(name)}(?![\w′-])", file.read_text()):
+        elif name and not has(file.read_text(), name):
             yield f"{claim}: {path} has no {name}"
     if places and not any(f"[{claim}]" in (ROOT / path).read_text() for path, _ in places if (ROOT / path).exists()):
         yield f"{claim}: none of its files has [{claim}]"

@@ -1,5 +1,6 @@
--- The definitions of specs/ on small inputs, by computing them: document 01, "Easy to get wrong" and "Examples on both sides".
--- The examples marked P are in the crate `demands` [E5]. Assumes nothing.
+-- The definitions of specs/ on small inputs, by computing them: document 01, "Easy to get wrong" and "Examples on
+-- both sides" [E5]; for each predicate and test one that fits and one refused for each part. The examples marked P are
+-- in the crate `demands`. Assumes nothing.
 use mathlib.Core.Bool.{true, false}
 use mathlib.Core.List.{List, [], _∷_}
 use mathlib.Core.Path.{_≡_, refl, ap}
@@ -7,9 +8,19 @@ use Prim.Native.Nat.{ℕ}
 use native.Mathlib.Omega.{arith}
 use lib.ListN.{getD}
 use Rattle.bounded.specs.Bounded.{every, firstFrom}
-use Rattle.schedule.specs.Schedule.{ones, zeros, isSchedule}
-use Rattle.circle.specs.Step.{shift, found, has01, movesNext, next}
-use Rattle.circle.specs.Walk.{steps, changed, worked, isDip}
+use Rattle.refusal.specs.declared.Refusal.the-variants.{WrongLength, RunTooLong}
+use Rattle.refusal.specs.declared.Verdict.{Verdict}
+use Rattle.refusal.specs.Order.{judge}
+use Rattle.triangle.specs.Count.{N}
+use Rattle.schedule.specs.Schedule.{ones, zeros, Schedule, isSchedule}
+use Rattle.schedule.proofs.Hand.{plays, plays-schedule}
+use Rattle.circle.specs.declared.Move.{Move}
+use Rattle.circle.specs.Step.{shift, is01, found, has01, movesNext, next, top}
+use Rattle.circle.specs.Walk.{steps, changed, worked, isDip, dips}
+use Rattle.circle.specs.Plan.{Form, applied, changes, Inside, Plans}
+use Rattle.circle.specs.Answers.{left, runRows}
+use Rattle.circle.proofs.Circle.{steps-schedule}
+use Rattle.circle.proofs.Theorems.{OneWay, circle}
 
 -- the third and the fourth prefix shift of 11010: the symbol goes to position 2
 shift-3 : shift 3 (1 ∷ 1 ∷ 0 ∷ 1 ∷ 0 ∷ []) ≡ 1 ∷ 0 ∷ 1 ∷ 1 ∷ 0 ∷ []
@@ -34,9 +45,42 @@ next-10101 : next (1 ∷ 0 ∷ 1 ∷ 0 ∷ 1 ∷ []) ≡ 1 ∷ 1 ∷ 0 ∷ 0 ∷
 unfolding shift found has01 movesNext next firstFrom every ones zeros isSchedule
 next-10101 = refl
 
+-- in 10110 the 1 behind it may: 11010 is one
+moves-10110 : movesNext (1 ∷ 0 ∷ 1 ∷ 1 ∷ 0 ∷ []) ≡ true
+unfolding shift found has01 movesNext next firstFrom every ones zeros isSchedule
+moves-10110 = refl
+
 no-01 : has01 (1 ∷ 1 ∷ 0 ∷ 0 ∷ []) ≡ false
 unfolding found has01 firstFrom
 no-01 = refl
+
+some-01 : has01 (1 ∷ 0 ∷ 1 ∷ 1 ∷ 0 ∷ []) ≡ true
+unfolding found has01 firstFrom
+some-01 = refl
+
+-- its place is 1, and the position of its 1 is 3; in 1100 that would be past the end
+is-01 : is01 (1 ∷ 0 ∷ 1 ∷ 1 ∷ 0 ∷ []) 1 ≡ true
+is-01 = refl
+
+is-10 : is01 (1 ∷ 0 ∷ 1 ∷ 1 ∷ 0 ∷ []) 0 ≡ false
+is-10 = refl
+
+is-11 : is01 (1 ∷ 0 ∷ 1 ∷ 1 ∷ 0 ∷ []) 2 ≡ false
+is-11 = refl
+
+found-3 : found (1 ∷ 0 ∷ 1 ∷ 1 ∷ 0 ∷ []) ≡ 3
+unfolding found firstFrom
+found-3 = refl
+
+found-past : found (1 ∷ 1 ∷ 0 ∷ 0 ∷ []) ≡ 6
+unfolding found firstFrom
+found-past = refl
+
+top-3-2 : top 3 2 ≡ 1 ∷ 1 ∷ 1 ∷ 0 ∷ 0 ∷ []
+top-3-2 = refl
+
+top-0-1 : top 0 1 ≡ 0 ∷ []
+top-0-1 = refl
 
 -- 10110 sets down at its second beat, but is the form after 11100; 10101 is not
 not-dip : isDip 3 2 (1 ∷ 0 ∷ 1 ∷ 1 ∷ 0 ∷ []) ≡ false
@@ -56,3 +100,128 @@ first-step-only e = let clash : _≡_ {A = ℕ} 1 0 = ap (λ (l : List ℕ). get
 twice-its-length : worked 3 (1 ∷ 1 ∷ 1 ∷ 0 ∷ 0 ∷ []) ≡ 8
 unfolding shift found has01 movesNext next firstFrom every ones zeros isSchedule steps changed worked
 twice-its-length = refl
+
+-- the third step from 11100 changes four beats, and arrives at the first dip
+no-steps : steps 0 (1 ∷ 1 ∷ 1 ∷ 0 ∷ 0 ∷ []) ≡ 1 ∷ 1 ∷ 1 ∷ 0 ∷ 0 ∷ []
+unfolding steps
+no-steps = refl
+
+two-steps : steps 2 (1 ∷ 1 ∷ 1 ∷ 0 ∷ 0 ∷ []) ≡ 1 ∷ 1 ∷ 0 ∷ 1 ∷ 0 ∷ []
+unfolding shift found has01 movesNext next firstFrom every ones zeros isSchedule steps
+two-steps = refl
+
+changed-4 : changed (1 ∷ 1 ∷ 0 ∷ 1 ∷ 0 ∷ []) (1 ∷ 0 ∷ 1 ∷ 0 ∷ 1 ∷ []) ≡ 4
+unfolding changed
+changed-4 = refl
+
+changed-0 : changed (1 ∷ 0 ∷ []) (1 ∷ 0 ∷ []) ≡ 0
+unfolding changed
+changed-0 = refl
+
+worked-2 : worked 2 (1 ∷ 1 ∷ 1 ∷ 0 ∷ 0 ∷ []) ≡ 4
+unfolding shift found has01 movesNext next firstFrom every ones zeros isSchedule steps changed worked
+worked-2 = refl
+
+no-dips : dips 3 2 2 (1 ∷ 1 ∷ 1 ∷ 0 ∷ 0 ∷ []) ≡ 0
+unfolding shift found has01 movesNext next firstFrom every ones zeros isSchedule steps changed isDip dips
+no-dips = refl
+
+one-dip : dips 3 2 3 (1 ∷ 1 ∷ 1 ∷ 0 ∷ 0 ∷ []) ≡ 1
+unfolding shift found has01 movesNext next firstFrom every ones zeros isSchedule steps changed isDip dips
+one-dip = refl
+
+-- what a call leaves: its work; refused, what was lent
+leaves-work : left Verdict.Accepted (1 ∷ []) (0 ∷ []) ≡ 1 ∷ []
+leaves-work = refl
+
+leaves-lent : left (Verdict.Refused WrongLength) (1 ∷ []) (0 ∷ []) ≡ 0 ∷ []
+leaves-lent = refl
+
+-- the longest run, and one step more
+run-65535 : judge (runRows 1 1 (1 ∷ 0 ∷ []) 65535) ≡ Verdict.Accepted
+unfolding firstFrom ones zeros
+run-65535 = refl
+
+run-65536 : judge (runRows 1 1 (1 ∷ 0 ∷ []) 65536) ≡ Verdict.Refused RunTooLong
+unfolding firstFrom ones zeros
+run-65536 = refl
+
+-- 11010 is a schedule of its counts, and 1001 is not
+form-11010 : Form (1 ∷ 1 ∷ 0 ∷ 1 ∷ 0 ∷ [])
+unfolding plays
+form-11010 = plays-schedule refl refl refl
+
+not-form-1001 : Form (1 ∷ 0 ∷ 0 ∷ 1 ∷ []) → ⊥
+unfolding ones zeros
+not-form-1001 p = omega (arith, p .ahead 3 (omega arith))
+
+-- the moves from 11100 and from 11010
+applied-swap : applied (Move.Swaps 3 1) (1 ∷ 1 ∷ 1 ∷ 0 ∷ 0 ∷ []) ≡ 1 ∷ 0 ∷ 1 ∷ 1 ∷ 0 ∷ []
+applied-swap = refl
+
+applied-dip : applied (Move.Dips 2 3) (1 ∷ 1 ∷ 0 ∷ 1 ∷ 0 ∷ []) ≡ 1 ∷ 0 ∷ 1 ∷ 0 ∷ 1 ∷ []
+applied-dip = refl
+
+changes-2 : changes (Move.Swaps 3 1) ≡ 2
+changes-2 = refl
+
+changes-4 : changes (Move.Dips 2 3) ≡ 4
+changes-4 = refl
+
+-- each place of a swap and of a dip has to be inside; to stay asks for none
+inside-swap : Inside (Move.Swaps 3 4) 5
+inside-swap = (omega arith, omega arith)
+
+swap-outside : Inside (Move.Swaps 5 1) 5 → ⊥
+swap-outside p = omega (arith, p .0)
+
+swap-from-outside : Inside (Move.Swaps 3 5) 5 → ⊥
+swap-from-outside p = omega (arith, p .1)
+
+inside-dip : Inside (Move.Dips 2 3) 5
+inside-dip = (omega arith, omega arith, omega arith)
+
+dip-outside : Inside (Move.Dips 5 3) 5 → ⊥
+dip-outside p = omega (arith, p .0)
+
+dip-no-second : Inside (Move.Dips 0 0) 1 → ⊥
+dip-no-second p = omega (arith, p .1)
+
+dip-behind-last : Inside (Move.Dips 2 4) 5 → ⊥
+dip-behind-last p = omega (arith, p .2)
+
+-- the move from 11010; one that makes 10001; one from 11100 that makes the next form and miscounts; one past the end
+plans-11010 : Plans (1 ∷ 1 ∷ 0 ∷ 1 ∷ 0 ∷ []) (Move.Dips 2 3)
+unfolding shift found has01 movesNext next firstFrom every ones zeros isSchedule changed
+plans-11010 = record { inside = inside-dip; makes = refl; counts = refl }
+
+makes-10001 : Plans (1 ∷ 1 ∷ 0 ∷ 1 ∷ 0 ∷ []) (Move.Dips 3 3) → ⊥
+unfolding shift found has01 movesNext next firstFrom every ones zeros isSchedule
+makes-10001 p = let clash : _≡_ {A = ℕ} 0 1 = ap (λ (l : List ℕ). getD l 2 0) (p .makes) in omega arith
+
+counts-4 : Plans (1 ∷ 1 ∷ 1 ∷ 0 ∷ 0 ∷ []) (Move.Dips 3 1) → ⊥
+unfolding shift found has01 movesNext next firstFrom every ones zeros isSchedule changed
+counts-4 p = omega (arith, p .counts)
+
+past-the-end : Plans (1 ∷ 1 ∷ []) (Move.Swaps 2 1) → ⊥
+past-the-end p = omega (arith, p .inside .0)
+
+-- one way from 110 to 101 and none to 111; and a form that follows itself has five ways to itself in five steps, not one
+schedule-110 : Schedule 2 1 (1 ∷ 1 ∷ 0 ∷ [])
+unfolding ones zeros plays
+schedule-110 = plays-schedule refl refl refl
+
+schedule-101 : Schedule 2 1 (1 ∷ 0 ∷ 1 ∷ [])
+unfolding ones zeros plays
+schedule-101 = plays-schedule refl refl refl
+
+way-to-101 : OneWay 2 1 (1 ∷ 1 ∷ 0 ∷ []) (1 ∷ 0 ∷ 1 ∷ [])
+way-to-101 = circle schedule-110 schedule-101
+
+no-way-to-111 : OneWay 2 1 (1 ∷ 1 ∷ 0 ∷ []) (1 ∷ 1 ∷ 1 ∷ []) → ⊥
+unfolding ones
+no-way-to-111 p = omega (arith, steps-schedule (p .count) schedule-110 .taken, ap ones (p .leads))
+
+five-ways : OneWay 3 2 (1 ∷ 0 ∷ []) (1 ∷ 0 ∷ []) → ⊥
+unfolding N shift found has01 movesNext next firstFrom every ones zeros isSchedule steps
+five-ways p = omega (arith, p .only 1 (omega arith) (omega arith) refl, p .only 2 (omega arith) (omega arith) refl)

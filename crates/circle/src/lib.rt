@@ -91,7 +91,8 @@ fn changes(planned: Move) -> u64
 // Takes one step in place, and answers its changed beats.
 fn step(beats: &mut [u8]) -> u64
     requires { ⌜ Form (now beats) ⌝ }
-    ensures { λ r. ⌜ (now (beats .exit) ≡ Step·next (now (beats .entry))) × (r ≡ Walk·changed (now (beats .entry)) (Step·next (now (beats .entry)))) ⌝ }
+    ensures { λ _. ⌜ now (beats .exit) ≡ Step·next (now (beats .entry)) ⌝ }
+    ensures { λ r. ⌜ r ≡ Walk·changed (now (beats .entry)) (Step·next (now (beats .entry))) ⌝ }
 {
     let planned = plan(beats);
     make(beats, planned);
@@ -101,7 +102,8 @@ fn step(beats: &mut [u8]) -> u64
 // Takes k steps in place, and answers their changed beats added up.
 fn walk(beats: &mut [u8], k: u64) -> u64
     requires { ⌜ Form (now beats) × (k ≤ longest) ⌝ }
-    ensures { λ r. ⌜ (now (beats .exit) ≡ steps k (now (beats .entry))) × (r ≡ worked k (now (beats .entry))) ⌝ }
+    ensures { λ _. ⌜ now (beats .exit) ≡ steps k (now (beats .entry)) ⌝ }
+    ensures { λ r. ⌜ r ≡ worked k (now (beats .entry)) ⌝ }
 {
     let mut sum: u64 = 0;
     for _ in 0..k {
@@ -138,7 +140,8 @@ fn may_run(t: u64, s: u64, beats: &[u8], k: u64) -> Verdict
 // Takes the lent schedule one step on, and answers the beats that the step changed. Refuses 1 to 6 as
 // the check does; a refusal changes nothing. [S5] [W1] [P1]
 pub fn next(t: u64, s: u64, beats: &mut [u8]) -> Answer
-    ensures { λ r. ⌜ (r ≡ nextAnswer t s (now (beats .entry))) × (now (beats .exit) ≡ nextLeft t s (now (beats .entry))) ⌝ }
+    ensures { λ r. ⌜ r ≡ nextAnswer t s (now (beats .entry)) ⌝ }
+    ensures { λ _. ⌜ now (beats .exit) ≡ nextLeft t s (now (beats .entry)) ⌝ }
 {
     let verdict = schedule::check(t, s, beats);
     match verdict {
@@ -161,7 +164,8 @@ pub fn changed(t: u64, s: u64, beats: &[u8]) -> Answer
 // Takes the lent schedule k steps on, past the closing step where it comes to that, and answers the
 // beats changed at each of them added up. Refuses 1 to 6 as the check does, then 13; a refusal changes nothing. [S6]
 pub fn run(t: u64, s: u64, beats: &mut [u8], k: u64) -> Answer
-    ensures { λ r. ⌜ (r ≡ runAnswer t s (now (beats .entry)) k) × (now (beats .exit) ≡ runLeft t s (now (beats .entry)) k) ⌝ }
+    ensures { λ r. ⌜ r ≡ runAnswer t s (now (beats .entry)) k ⌝ }
+    ensures { λ _. ⌜ now (beats .exit) ≡ runLeft t s (now (beats .entry)) k ⌝ }
 {
     let verdict = may_run(t, s, beats, k);
     match verdict {

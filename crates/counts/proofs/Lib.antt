@@ -1,2 +1,3 @@
 pub mod Sizes
 pub mod Theorems
+pub mod Cases

@@ -1,1 +1,5 @@
 pub mod Examples
+pub mod Calls
+pub mod Accepted
+pub mod Demands
+pub mod Cases

@@ -2,7 +2,8 @@
 // numbers and lent bytes, a slice being its pointer and then its length. A call answers one number: the
 // refusal, the place and the value of check, count and number are asked for by a call each; form, next
 // and run answer their refusal, and what next and run would change comes from calls that write nothing.
-// Nothing is kept from call to call. The contracts cite the definitions of the crates below. [W3] [F4]
+// Nothing is kept from call to call. The contracts cite the definitions of the crates below,
+// each by an equation. [W3] [F4] [P13]
 ghost use mathlib.Core.Path.{_≡_};
 ghost use Rattle.refusal.specs.Answer.{refusal, place, verdict, value};
 ghost use Rattle.counts.specs.Counts.{counting};

@@ -8,3 +8,4 @@ pub mod Filling
 pub mod Writing
 pub mod Verdicts
 pub mod Agreement
+pub mod Cases

@@ -224,7 +224,8 @@ pub fn number_by(counts: &[u64], t: u64, s: u64, beats: &[u8]) -> Answer
 // Writes the form of that number into the t+s lent bytes. Refuses 1, 2, 7, then 3; a refusal changes
 // nothing. [W4] [D1e]
 pub fn form(t: u64, s: u64, number: u64, out: &mut [u8]) -> Verdict
-    ensures { λ r. ⌜ (r ≡ formVerdict t s number (now (out .entry))) × (now (out .exit) ≡ formLeft t s number (now (out .entry))) ⌝ }
+    ensures { λ r. ⌜ r ≡ formVerdict t s number (now (out .entry)) ⌝ }
+    ensures { λ _. ⌜ now (out .exit) ≡ formLeft t s number (now (out .entry)) ⌝ }
 {
     let none = [0u64; 1];
     form_by(&none[..0], t, s, number, out)
@@ -233,7 +234,8 @@ pub fn form(t: u64, s: u64, number: u64, out: &mut [u8]) -> Verdict
 // The same, by a list of counts that the caller keeps from call to call.
 pub fn form_by(counts: &[u64], t: u64, s: u64, number: u64, out: &mut [u8]) -> Verdict
     requires { ⌜ Counts (now counts) ⌝ }
-    ensures { λ r. ⌜ (r ≡ formVerdict t s number (now (out .entry))) × (now (out .exit) ≡ formLeft t s number (now (out .entry))) ⌝ }
+    ensures { λ r. ⌜ r ≡ formVerdict t s number (now (out .entry)) ⌝ }
+    ensures { λ _. ⌜ now (out .exit) ≡ formLeft t s number (now (out .entry)) ⌝ }
 {
     let verdict = numbered(counts, t, s, number);
     match verdict {
@@ -251,7 +253,8 @@ pub fn form_by(counts: &[u64], t: u64, s: u64, number: u64, out: &mut [u8]) -> V
 // Writes the form of that number onto the lent sheet, from the column on. Refuses 1, 2, 7, then 12; every
 // byte before and after the form stays, and a refusal changes nothing. No sum of the column can wrap. [W4] [F3]
 pub fn form_on_sheet(t: u64, s: u64, number: u64, sheet: &mut [u8], column: u64) -> Verdict
-    ensures { λ r. ⌜ (r ≡ sheetVerdict t s number (now (sheet .entry)) column) × (now (sheet .exit) ≡ sheetLeft t s number (now (sheet .entry)) column) ⌝ }
+    ensures { λ r. ⌜ r ≡ sheetVerdict t s number (now (sheet .entry)) column ⌝ }
+    ensures { λ _. ⌜ now (sheet .exit) ≡ sheetLeft t s number (now (sheet .entry)) column ⌝ }
 {
     let none = [0u64; 1];
     let verdict = numbered(&none[..0], t, s, number);

@@ -1,1 +1,2 @@
 pub mod Sliding
+pub mod Cases

@@ -1,16 +1,22 @@
--- The definitions of specs/ on small inputs, by computing them: the records of document 01 and their neighbours. Assumes nothing.
-use mathlib.Core.Bool.{true, false}
-use mathlib.Core.List.{List, [], _∷_, _++_}
-use mathlib.Core.Path.{_≡_, refl}
-use Prim.Native.Nat.{ℕ}
+-- The definitions of specs/ on small inputs, by computing them: the records of document 01 and their neighbours; for
+-- each predicate and test one that fits and one refused for each part. Assumes nothing.
+use mathlib.Core.Bool.{true, false, true≢false}
+use mathlib.Core.List.{[], _∷_}
+use mathlib.Core.Path.{_≡_, refl, _∙_, sym}
+use Prim.Native.Nat.{_+_}
+use native.Mathlib.Omega.{arith}
+use lib.ListN.{replicate}
 use Rattle.bounded.specs.Bounded.{every, firstFrom}
 use Rattle.refusal.specs.declared.Refusal.the-variants.{WrongSize, UnknownKind, CutShort, NoRoom, EmptyHand, WrongTakeUps, NoSuchNumber}
 use Rattle.refusal.specs.declared.Verdict.{Verdict}
 use Rattle.refusal.specs.Order.{judge}
 use Rattle.triangle.specs.Count.{N}
-use Rattle.schedule.specs.Schedule.{ones, zeros}
-use Rattle.record.specs.Bytes.{lowFirst, valueOf, spell, tabulate, bytesFor, packed, unpacked, unused}
-use Rattle.record.specs.Record.{kindOf, numbered, beaten, unknown, payload, long, cut, misfit, readRows, eaten}
+use Rattle.schedule.specs.Schedule.{ones, zeros, isSchedule}
+use Rattle.circle.specs.Step.{shift, found, has01, movesNext, next}
+use Rattle.circle.specs.Walk.{steps, changed}
+use Rattle.record.specs.Bytes.{lowFirst, valueOf, spell, tabulate, bytesFor, packed, beatAt, unpacked, unused, turned}
+use Rattle.record.specs.Record.{kindOf, isUnknown, numbered, beaten, unknown, payload, recordOf, long, kindIn, ups, downs, body, cut, misfit, spoiled, meant, meantNumber, readRows, eaten}
+use Rattle.record.specs.Reading.{leaving, readLeft, Whole}
 
 -- 12 and 1,020 as two bytes, and back
 low-12 : lowFirst 2 12 ≡ 12 ∷ 0 ∷ []
@@ -25,20 +31,63 @@ value-1020 : valueOf (252 ∷ 3 ∷ []) ≡ 1020
 unfolding valueOf
 value-1020 = refl
 
+value-12 : valueOf (12 ∷ 0 ∷ []) ≡ 12
+unfolding valueOf
+value-12 = refl
+
+-- 101 spells 5, and 10 with a beat that is not there 4
+spell-101 : spell 3 (1 ∷ 0 ∷ 1 ∷ []) ≡ 5
+unfolding spell
+spell-101 = refl
+
+spell-10 : spell 3 (1 ∷ 0 ∷ []) ≡ 4
+unfolding spell
+spell-10 = refl
+
+tabulate-3 : tabulate 3 (λ k. k + k) ≡ 0 ∷ 2 ∷ 4 ∷ []
+unfolding tabulate
+tabulate-3 = refl
+
+tabulate-0 : tabulate 0 (λ k. k + k) ≡ []
+unfolding tabulate
+tabulate-0 = refl
+
 -- 10101 is A8: the first beat is the highest bit, and three bits are unused
 packed-10101 : packed (1 ∷ 0 ∷ 1 ∷ 0 ∷ 1 ∷ []) ≡ 168 ∷ []
 unfolding tabulate spell
 packed-10101 = refl
 
+-- 100000001 needs a second byte
+packed-two-bytes : packed (1 ∷ 0 ∷ 0 ∷ 0 ∷ 0 ∷ 0 ∷ 0 ∷ 0 ∷ 1 ∷ []) ≡ 128 ∷ 128 ∷ []
+unfolding tabulate spell
+packed-two-bytes = refl
+
+beat-0 : beatAt (168 ∷ []) 0 ≡ 1
+beat-0 = refl
+
+beat-1 : beatAt (168 ∷ []) 1 ≡ 0
+beat-1 = refl
+
 unpacked-A8 : unpacked 5 (168 ∷ []) ≡ 1 ∷ 0 ∷ 1 ∷ 0 ∷ 1 ∷ []
 unfolding tabulate
 unpacked-A8 = refl
+
+unpacked-two : unpacked 2 (128 ∷ []) ≡ 1 ∷ 0 ∷ []
+unfolding tabulate
+unpacked-two = refl
 
 clean-A8 : unused 5 (168 ∷ []) ≡ 0
 clean-A8 = refl
 
 spoiled-A9 : unused 5 (169 ∷ []) ≡ 1
 spoiled-A9 = refl
+
+-- at beat 8 the second byte, at beat 9 what is left of it
+turned-8 : turned (168 ∷ 7 ∷ []) 8 3 ≡ 7
+turned-8 = refl
+
+turned-9 : turned (168 ∷ 7 ∷ []) 9 14 ≡ 14
+turned-9 = refl
 
 -- nine beats need two bytes, eight need one, none needs none
 nine : bytesFor 9 ≡ 2
@@ -62,6 +111,160 @@ kind-0 = refl
 
 kind-65535 : kindOf 65535 ≡ unknown
 kind-65535 = refl
+
+known-2 : isUnknown beaten ≡ false
+known-2 = refl
+
+unknown-3 : isUnknown (kindOf 3) ≡ true
+unknown-3 = refl
+
+-- 10 of 1, 1, by its number 0 and by its beats
+payload-1 : payload numbered 1 1 (1 ∷ 0 ∷ []) ≡ 0 ∷ 0 ∷ 0 ∷ 0 ∷ 0 ∷ 0 ∷ 0 ∷ 0 ∷ []
+unfolding lowFirst N firstFrom steps changed
+payload-1 = refl
+
+payload-2 : payload beaten 1 1 (1 ∷ 0 ∷ []) ≡ 128 ∷ []
+unfolding tabulate spell
+payload-2 = refl
+
+record-1 : recordOf 1 1 1 (1 ∷ 0 ∷ []) ≡ 12 ∷ 0 ∷ 1 ∷ 0 ∷ 1 ∷ 1 ∷ 0 ∷ 0 ∷ 0 ∷ 0 ∷ 0 ∷ 0 ∷ 0 ∷ 0 ∷ []
+unfolding lowFirst N firstFrom steps changed
+record-1 = refl
+
+record-2 : recordOf 2 1 1 (1 ∷ 0 ∷ []) ≡ 5 ∷ 0 ∷ 2 ∷ 0 ∷ 1 ∷ 1 ∷ 128 ∷ []
+unfolding lowFirst tabulate spell
+record-2 = refl
+
+-- the parts of the first two records of document 01
+long-12 : long (12 ∷ 0 ∷ 1 ∷ 0 ∷ 3 ∷ 2 ∷ 2 ∷ 0 ∷ 0 ∷ 0 ∷ 0 ∷ 0 ∷ 0 ∷ 0 ∷ []) ≡ 12
+unfolding valueOf
+long-12 = refl
+
+long-5 : long (5 ∷ 0 ∷ 2 ∷ 0 ∷ 3 ∷ 2 ∷ 168 ∷ []) ≡ 5
+unfolding valueOf
+long-5 = refl
+
+kind-in-1 : kindIn (12 ∷ 0 ∷ 1 ∷ 0 ∷ 3 ∷ 2 ∷ 2 ∷ 0 ∷ 0 ∷ 0 ∷ 0 ∷ 0 ∷ 0 ∷ 0 ∷ []) ≡ numbered
+unfolding valueOf
+kind-in-1 = refl
+
+kind-in-2 : kindIn (5 ∷ 0 ∷ 2 ∷ 0 ∷ 3 ∷ 2 ∷ 168 ∷ []) ≡ beaten
+unfolding valueOf
+kind-in-2 = refl
+
+ups-3 : ups (5 ∷ 0 ∷ 2 ∷ 0 ∷ 3 ∷ 2 ∷ 168 ∷ []) ≡ 3
+ups-3 = refl
+
+ups-1 : ups (5 ∷ 0 ∷ 2 ∷ 0 ∷ 1 ∷ 0 ∷ 128 ∷ []) ≡ 1
+ups-1 = refl
+
+downs-2 : downs (5 ∷ 0 ∷ 2 ∷ 0 ∷ 3 ∷ 2 ∷ 168 ∷ []) ≡ 2
+downs-2 = refl
+
+downs-0 : downs (5 ∷ 0 ∷ 2 ∷ 0 ∷ 1 ∷ 0 ∷ 128 ∷ []) ≡ 0
+downs-0 = refl
+
+body-1 : body (12 ∷ 0 ∷ 1 ∷ 0 ∷ 3 ∷ 2 ∷ 2 ∷ 0 ∷ 0 ∷ 0 ∷ 0 ∷ 0 ∷ 0 ∷ 0 ∷ []) ≡ 2 ∷ 0 ∷ 0 ∷ 0 ∷ 0 ∷ 0 ∷ 0 ∷ 0 ∷ []
+unfolding valueOf
+body-1 = refl
+
+body-2 : body (5 ∷ 0 ∷ 2 ∷ 0 ∷ 3 ∷ 2 ∷ 168 ∷ []) ≡ 168 ∷ []
+unfolding valueOf
+body-2 = refl
+
+-- a whole record; no length; a byte too few; the longest, and a byte more
+not-cut : cut (5 ∷ 0 ∷ 2 ∷ 0 ∷ 3 ∷ 2 ∷ 168 ∷ []) ≡ false
+unfolding valueOf
+not-cut = refl
+
+cut-in-length : cut (0 ∷ []) ≡ true
+unfolding valueOf
+cut-in-length = refl
+
+cut-in-body : cut (5 ∷ 0 ∷ 2 ∷ 0 ∷ 3 ∷ 2 ∷ []) ≡ true
+unfolding valueOf
+cut-in-body = refl
+
+not-cut-1020 : cut (252 ∷ 3 ∷ replicate 1020 0) ≡ false
+unfolding valueOf
+not-cut-1020 = refl
+
+cut-1021 : cut (253 ∷ 3 ∷ replicate 1021 0) ≡ true
+unfolding valueOf
+cut-1021 = refl
+
+-- L for each kind
+fits-12 : misfit numbered 12 ≡ false
+fits-12 = refl
+
+misfit-13 : misfit numbered 13 ≡ true
+misfit-13 = refl
+
+fits-4 : misfit beaten 4 ≡ false
+fits-4 = refl
+
+misfit-3 : misfit beaten 3 ≡ true
+misfit-3 = refl
+
+-- five beats in a byte; a byte too many; an unused bit set
+unspoiled : spoiled 5 5 (168 ∷ []) ≡ false
+unspoiled = refl
+
+spoiled-length : spoiled 5 6 (168 ∷ 0 ∷ []) ≡ true
+spoiled-length = refl
+
+spoiled-bit : spoiled 5 5 (169 ∷ []) ≡ true
+spoiled-bit = refl
+
+-- number 2 of 3, 2 is 11010, and 10101 has number 3
+meant-1 : meant numbered 3 2 (2 ∷ 0 ∷ 0 ∷ 0 ∷ 0 ∷ 0 ∷ 0 ∷ 0 ∷ []) ≡ 1 ∷ 1 ∷ 0 ∷ 1 ∷ 0 ∷ []
+unfolding valueOf every firstFrom ones zeros isSchedule shift found has01 movesNext next steps
+meant-1 = refl
+
+meant-2 : meant beaten 3 2 (168 ∷ []) ≡ 1 ∷ 0 ∷ 1 ∷ 0 ∷ 1 ∷ []
+unfolding tabulate
+meant-2 = refl
+
+meant-number-1 : meantNumber numbered 3 2 (2 ∷ 0 ∷ 0 ∷ 0 ∷ 0 ∷ 0 ∷ 0 ∷ 0 ∷ []) ≡ 2
+unfolding valueOf
+meant-number-1 = refl
+
+meant-number-2 : meantNumber beaten 3 2 (168 ∷ []) ≡ 3
+unfolding tabulate N every firstFrom ones zeros isSchedule shift found has01 movesNext next steps changed
+meant-number-2 = refl
+
+-- the schedule goes into the first places of what is lent, and nothing where reading is refused
+leaves-form : leaving beaten (5 ∷ 0 ∷ 2 ∷ 0 ∷ 3 ∷ 2 ∷ 168 ∷ []) Verdict.Accepted (7 ∷ 7 ∷ 7 ∷ 7 ∷ 7 ∷ 7 ∷ [])
+    ≡ 1 ∷ 0 ∷ 1 ∷ 0 ∷ 1 ∷ 7 ∷ []
+unfolding valueOf tabulate
+leaves-form = refl
+
+leaves-lent : leaving beaten (5 ∷ 0 ∷ 2 ∷ 0 ∷ 3 ∷ 2 ∷ 168 ∷ []) (Verdict.Refused NoRoom) (7 ∷ 7 ∷ []) ≡ 7 ∷ 7 ∷ []
+leaves-lent = refl
+
+read-leaves-form : readLeft (5 ∷ 0 ∷ 2 ∷ 0 ∷ 3 ∷ 2 ∷ 168 ∷ []) (replicate 64 7) ≡ 1 ∷ 0 ∷ 1 ∷ 0 ∷ 1 ∷ replicate 59 7
+unfolding valueOf tabulate firstFrom ones zeros
+read-leaves-form = refl
+
+read-leaves-lent : readLeft (5 ∷ 0 ∷ 2 ∷ 0 ∷ 3 ∷ 2 ∷ 168 ∷ []) (7 ∷ 7 ∷ []) ≡ 7 ∷ 7 ∷ []
+read-leaves-lent = refl
+
+-- what is known before the kind is looked at, and an input refused for each part
+whole : Whole (5 ∷ 0 ∷ 2 ∷ 0 ∷ 3 ∷ 2 ∷ 168 ∷ []) 5 (replicate 64 7)
+unfolding valueOf
+whole = record { said = refl; here = refl; kind = omega arith; room = omega arith }
+
+not-said : Whole (5 ∷ 0 ∷ 2 ∷ 0 ∷ 3 ∷ 2 ∷ 168 ∷ []) 4 (replicate 64 7) → ⊥
+not-said p = omega (arith, p .said, long-5)
+
+not-here : Whole (5 ∷ 0 ∷ 2 ∷ 0 ∷ 3 ∷ 2 ∷ []) 5 (replicate 64 7) → ⊥
+not-here p = true≢false (sym cut-in-body ∙ p .here)
+
+no-kind : Whole (0 ∷ 0 ∷ []) 0 (replicate 64 7) → ⊥
+no-kind p = omega (arith, p .kind)
+
+too-little-room : Whole (5 ∷ 0 ∷ 2 ∷ 0 ∷ 3 ∷ 2 ∷ 168 ∷ []) 5 (replicate 63 7) → ⊥
+too-little-room p = omega (arith, p .room)
 
 -- the second record of document 01, and the same cut by a byte, with L = 0, and of kind 3
 taken : judge (readRows 64 (5 ∷ 0 ∷ 2 ∷ 0 ∷ 3 ∷ 2 ∷ 168 ∷ [])) ≡ Verdict.Accepted

@@ -15,7 +15,7 @@ use lib.ListN.{length}
 use Rattle.refusal.specs.declared.Refusal.{Refusal}
 use Rattle.refusal.specs.declared.Verdict.{Verdict}
 use Rattle.refusal.specs.Order.{judge}
-use Rattle.refusal.proofs.Order.{judge-front, judge-back}
+use Rattle.refusal.proofs.Order.{judge-front, judge-back, both}
 use Rattle.triangle.specs.Count.{N, largest}
 use Rattle.counts.specs.Counts.{Allowed, countRows}
 use Rattle.counts.proofs.Sizes.{counts-allowed}
@@ -32,10 +32,6 @@ use Rattle.record.proofs.Packing.{length-tabulate}
 use Rattle.record.proofs.Verdicts.{hand-checked, unpacked-beats, spoiled-long, spoiled-bits, spoiled-not}
 use Rattle.record.proofs.Answering.{numbered-long, numbered-fits, beaten-long, beaten-fits}
 use Rattle.record.proofs.Parts.{read-facts}
-
--- a verdict is not both
-both : {v : Verdict} {why : Refusal} {A : Type 0} → v ≡ Verdict.Accepted → v ≡ Verdict.Refused why → A
-both e f = let z : _≡_ {A = ℕ} 0 1 = cc in absurd (omega arith)
 
 module _ (src : List ℕ) where
   pub numbered-facts : judge (kindRows numbered src) ≡ Verdict.Accepted

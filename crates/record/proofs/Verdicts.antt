@@ -5,13 +5,12 @@
 --     form-number          a form of a number in exactly its room is refused as the number is
 --     hand-checked         beats that are zeros and ones, of the right length and of allowed counts, are refused by 5 and 6 only
 --     spoiled-bits, spoiled-not       the row for kind 2's L and unused bits
---     copied               a list copied over one of its length
 --     unpacked-beats       unpacked beats are zeros and ones
 --     all-beats            so are the beats of a schedule, read past their end as well
 --     answer-refused, answer-value    what an answer says of the verdict it was made by
 -- Assumes nothing.
 use mathlib.Core.Bool.{Bool, true, false, not, cond, _||_}
-use mathlib.Core.List.{List, [], _∷_, _++_, append-nil}
+use mathlib.Core.List.{List, [], _∷_, _++_}
 use mathlib.Core.Path.{_≡_, refl, sym, _∙_, ap, subst}
 use Prim.Native.Nat.{ℕ, _+_, _%_, _≤_, _<_}
 use native.Mathlib.Decide.{decLt}
@@ -19,7 +18,6 @@ use native.Mathlib.Omega.{arith}
 use borrow.Author.Tests.{eq-eqb, ne-eqb, le-ltb}
 use lib.Dec.{eqb, ltb}
 use lib.ListN.{length, getD, take, drop, take-append-drop, List·getD-eq-default}
-use lib.Seq.{take-length, drop-length}
 use Rattle.refusal.specs.declared.Answer.{Answer}
 use Rattle.refusal.specs.declared.Refusal.{Refusal}
 use Rattle.refusal.specs.declared.Refusal.the-variants.{WrongSize, WrongLength, BadBeat}
@@ -118,10 +116,6 @@ answer-refused (Verdict.Refused first) n e = cc
 pub answer-value : (v : Verdict) (n : ℕ) {m : ℕ} → answer v n ≡ Answer.Value m → (v ≡ Verdict.Accepted) × (m ≡ n)
 answer-value Verdict.Accepted n e = (refl, cc)
 answer-value (Verdict.Refused first) n e = let z : _≡_ {A = ℕ} 0 1 = cc in absurd (omega arith)
-
--- a list copied over one of its length
-pub copied : (src dst : List ℕ) → length src ≡ length dst → take (length src) src ++ drop (length src) dst ≡ src
-copied src dst e = rw (take-length src) (ap (λ (j : ℕ). src ++ drop j dst) e ∙ ap (λ (w : List ℕ). src ++ w) (drop-length dst) ∙ append-nil src)
 
 -- unpacked beats are zeros and ones
 pub unpacked-beats : (n : ℕ) (p : List ℕ) → (k : ℕ) → k < length (unpacked n p) → getD (unpacked n p) k 0 ≤ 1

@@ -80,7 +80,8 @@ impl Reading {
 // slice, leaving the others. Refuses 12, 9, 11 (L below 2), 10, 11 (L wrong for the kind), 1, 2, then 7, or 11
 // (kind 2's exact L and unused bits), 5, 6; a refusal changes nothing. [W2]
 pub fn read(src: &[u8], out: &mut [u8]) -> Reading
-    ensures { λ r. ⌜ (r ≡ readAnswer (now (src .entry)) (now (out .entry))) × (now (out .exit) ≡ readLeft (now (src .entry)) (now (out .entry))) ⌝ }
+    ensures { λ r. ⌜ r ≡ readAnswer (now (src .entry)) (now (out .entry)) ⌝ }
+    ensures { λ _. ⌜ now (out .exit) ≡ readLeft (now (src .entry)) (now (out .entry)) ⌝ }
 {
     let none = [0u64; 1];
     read_by(&none[..0], src, out)
@@ -89,7 +90,8 @@ pub fn read(src: &[u8], out: &mut [u8]) -> Reading
 // The same, by a list of counts that the caller keeps from call to call.
 pub fn read_by(counts: &[u64], src: &[u8], out: &mut [u8]) -> Reading
     requires { ⌜ Counts (now counts) ⌝ }
-    ensures { λ r. ⌜ (r ≡ readAnswer (now (src .entry)) (now (out .entry))) × (now (out .exit) ≡ readLeft (now (src .entry)) (now (out .entry))) ⌝ }
+    ensures { λ r. ⌜ r ≡ readAnswer (now (src .entry)) (now (out .entry)) ⌝ }
+    ensures { λ _. ⌜ now (out .exit) ≡ readLeft (now (src .entry)) (now (out .entry)) ⌝ }
 {
     if out.len() < reads::ROOM {
         return Reading::Refused(Refusal::NoRoom, 0);
@@ -112,7 +114,8 @@ pub fn read_by(counts: &[u64], src: &[u8], out: &mut [u8]) -> Reading
 // Writes the record of a schedule into the first 2+L bytes lent, leaving the others, and answers 2+L. Refuses
 // 10, 1, 2, 3, 4, 5, 6, then 12; a refusal changes nothing.
 pub fn write(kind: u64, t: u64, s: u64, beats: &[u8], out: &mut [u8]) -> Answer
-    ensures { λ r. ⌜ (r ≡ writeAnswer kind t s (now (beats .entry)) (now (out .entry))) × (now (out .exit) ≡ writeLeft kind t s (now (beats .entry)) (now (out .entry))) ⌝ }
+    ensures { λ r. ⌜ r ≡ writeAnswer kind t s (now (beats .entry)) (now (out .entry)) ⌝ }
+    ensures { λ _. ⌜ now (out .exit) ≡ writeLeft kind t s (now (beats .entry)) (now (out .entry)) ⌝ }
 {
     match kind {
         1 => writes::numbered(t, s, beats, out),

@@ -58,7 +58,8 @@ fn current(src: &[u8], at: usize, byte: u8) -> u8
 // left over are 0.
 pub fn unpack(src: &[u8], out: &mut [u8]) -> bool
     requires { ⌜ length (now src) ≡ bytesFor (length (now out)) ⌝ }
-    ensures { λ r. ⌜ (r ≡ eqb (unused (length (now (out .entry))) (now (src .entry))) 0) × (now (out .exit) ≡ unpacked (length (now (out .entry))) (now (src .entry))) ⌝ }
+    ensures { λ r. ⌜ r ≡ eqb (unused (length (now (out .entry))) (now (src .entry))) 0 ⌝ }
+    ensures { λ _. ⌜ now (out .exit) ≡ unpacked (length (now (out .entry))) (now (src .entry)) ⌝ }
 {
     let mut byte: u8 = 0;
     let mut at = 0;

@@ -68,7 +68,8 @@ fn wide(byte: u8) -> u64
 // The form of a number, where its counts are allowed and have it.
 fn formed(counts: &[u64], t: u64, s: u64, number: u64, long: u64, out: &mut [u8]) -> Reading
     requires { ⌜ Counts (now counts) × (long ≤ longest) × (largest + largest ≤ length (now out)) ⌝ }
-    ensures { λ r. ⌜ (r ≡ told t s number long (judge (numberRows t s number))) × (now (out .exit) ≡ left (judge (numberRows t s number)) (formOf t s number ++ drop (t + s) (now (out .entry))) (now (out .entry))) ⌝ }
+    ensures { λ r. ⌜ r ≡ told t s number long (judge (numberRows t s number)) ⌝ }
+    ensures { λ _. ⌜ now (out .exit) ≡ left (judge (numberRows t s number)) (formOf t s number ++ drop (t + s) (now (out .entry))) (now (out .entry)) ⌝ }
 {
     let allowed = counts::allowed(t, s);
     match allowed {
@@ -92,7 +93,8 @@ fn formed(counts: &[u64], t: u64, s: u64, number: u64, long: u64, out: &mut [u8]
 // A record of kind 1.
 pub fn numbered(counts: &[u64], src: &[u8], long: u64, out: &mut [u8]) -> Reading
     requires { ⌜ Counts (now counts) × Whole (now src) long (now out) ⌝ }
-    ensures { λ r. ⌜ (r ≡ reading part.numbered (now (src .entry)) (judge (kindRows part.numbered (now (src .entry))))) × (now (out .exit) ≡ leaving part.numbered (now (src .entry)) (judge (kindRows part.numbered (now (src .entry)))) (now (out .entry))) ⌝ }
+    ensures { λ r. ⌜ r ≡ reading part.numbered (now (src .entry)) (judge (kindRows part.numbered (now (src .entry)))) ⌝ }
+    ensures { λ _. ⌜ now (out .exit) ≡ leaving part.numbered (now (src .entry)) (judge (kindRows part.numbered (now (src .entry)))) (now (out .entry)) ⌝ }
 {
     if long != 12 {
         return Reading::Refused(Refusal::WrongSize, 2 + long);
@@ -113,7 +115,8 @@ fn spread(
     out: &mut [u8],
 ) -> Reading
     requires { ⌜ Counts (now counts) × Allowed t s × (long ≡ 4 + bytesFor (t + s)) × (length (now packed) ≡ bytesFor (t + s)) × (length (now room) ≡ t + s) × (length (now out) ≡ t + s) ⌝ }
-    ensures { λ r. ⌜ (r ≡ told t s (numberOf t s (unpacked (t + s) (now (packed .entry)))) long (judge (bodyRows part.beaten t s long (now (packed .entry))))) × (now (out .exit) ≡ left (judge (bodyRows part.beaten t s long (now (packed .entry)))) (unpacked (t + s) (now (packed .entry))) (now (out .entry))) ⌝ }
+    ensures { λ r. ⌜ r ≡ told t s (numberOf t s (unpacked (t + s) (now (packed .entry)))) long (judge (bodyRows part.beaten t s long (now (packed .entry)))) ⌝ }
+    ensures { λ _. ⌜ now (out .exit) ≡ left (judge (bodyRows part.beaten t s long (now (packed .entry)))) (unpacked (t + s) (now (packed .entry))) (now (out .entry)) ⌝ }
 {
     if !pack::unpack(packed, room) {
         return Reading::Refused(Refusal::WrongSize, 2 + long);
@@ -136,7 +139,8 @@ fn spread(
 // The packed beats of a form, where its counts are allowed and its L is what they need.
 fn unpacked(counts: &[u64], t: u64, s: u64, long: u64, packed: &[u8], out: &mut [u8]) -> Reading
     requires { ⌜ Counts (now counts) × (long ≤ longest) × (length (now packed) + 4 ≡ long) × (largest + largest ≤ length (now out)) ⌝ }
-    ensures { λ r. ⌜ (r ≡ told t s (numberOf t s (beats.unpacked (t + s) (now (packed .entry)))) long (judge (countRows t s ++ bodyRows part.beaten t s long (now (packed .entry))))) × (now (out .exit) ≡ left (judge (countRows t s ++ bodyRows part.beaten t s long (now (packed .entry)))) (beats.unpacked (t + s) (now (packed .entry)) ++ drop (t + s) (now (out .entry))) (now (out .entry))) ⌝ }
+    ensures { λ r. ⌜ r ≡ told t s (numberOf t s (beats.unpacked (t + s) (now (packed .entry)))) long (judge (countRows t s ++ bodyRows part.beaten t s long (now (packed .entry)))) ⌝ }
+    ensures { λ _. ⌜ now (out .exit) ≡ left (judge (countRows t s ++ bodyRows part.beaten t s long (now (packed .entry)))) (beats.unpacked (t + s) (now (packed .entry)) ++ drop (t + s) (now (out .entry))) (now (out .entry)) ⌝ }
 {
     let allowed = counts::allowed(t, s);
     match allowed {
@@ -155,7 +159,8 @@ fn unpacked(counts: &[u64], t: u64, s: u64, long: u64, packed: &[u8], out: &mut 
 // A record of kind 2.
 pub fn beaten(counts: &[u64], src: &[u8], long: u64, out: &mut [u8]) -> Reading
     requires { ⌜ Counts (now counts) × Whole (now src) long (now out) ⌝ }
-    ensures { λ r. ⌜ (r ≡ reading part.beaten (now (src .entry)) (judge (kindRows part.beaten (now (src .entry))))) × (now (out .exit) ≡ leaving part.beaten (now (src .entry)) (judge (kindRows part.beaten (now (src .entry)))) (now (out .entry))) ⌝ }
+    ensures { λ r. ⌜ r ≡ reading part.beaten (now (src .entry)) (judge (kindRows part.beaten (now (src .entry)))) ⌝ }
+    ensures { λ _. ⌜ now (out .exit) ≡ leaving part.beaten (now (src .entry)) (judge (kindRows part.beaten (now (src .entry)))) (now (out .entry)) ⌝ }
 {
     if long < 4 {
         return Reading::Refused(Refusal::WrongSize, 2 + long);

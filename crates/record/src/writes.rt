@@ -26,7 +26,8 @@ fn head(long: u64, kind: u64, t: u64, s: u64, out: &mut [u8])
 
 // A record of kind 1.
 pub fn numbered(t: u64, s: u64, beats: &[u8], out: &mut [u8]) -> Answer
-    ensures { λ r. ⌜ (r ≡ kindAnswer 1 t s (now (beats .entry)) (now (out .entry))) × (now (out .exit) ≡ kindLeft 1 t s (now (beats .entry)) (now (out .entry))) ⌝ }
+    ensures { λ r. ⌜ r ≡ kindAnswer 1 t s (now (beats .entry)) (now (out .entry)) ⌝ }
+    ensures { λ _. ⌜ now (out .exit) ≡ kindLeft 1 t s (now (beats .entry)) (now (out .entry)) ⌝ }
 {
     let numbered = number::number(t, s, beats);
     match numbered {
@@ -44,7 +45,8 @@ pub fn numbered(t: u64, s: u64, beats: &[u8], out: &mut [u8]) -> Answer
 
 // A record of kind 2.
 pub fn beaten(t: u64, s: u64, beats: &[u8], out: &mut [u8]) -> Answer
-    ensures { λ r. ⌜ (r ≡ kindAnswer 2 t s (now (beats .entry)) (now (out .entry))) × (now (out .exit) ≡ kindLeft 2 t s (now (beats .entry)) (now (out .entry))) ⌝ }
+    ensures { λ r. ⌜ r ≡ kindAnswer 2 t s (now (beats .entry)) (now (out .entry)) ⌝ }
+    ensures { λ _. ⌜ now (out .exit) ≡ kindLeft 2 t s (now (beats .entry)) (now (out .entry)) ⌝ }
 {
     let verdict = schedule::check(t, s, beats);
     match verdict {

@@ -1,6 +1,7 @@
 -- The verdict of an order that goes on.
 --     judge-refused      what the first rows refuse stays refused with more rows behind them
 --     judge-accepted     where the first rows accept, the rows behind them decide
+--     both               a verdict is not an accepting and a refusing one
 --     judge-front, judge-back     what an order accepts, its first rows accept, and the rows behind them
 -- Assumes nothing.
 use mathlib.Core.Bool.{true, false}
@@ -29,3 +30,6 @@ judge-front ((false ⇒ first) ∷ l) m e = judge-front l m e
 
 pub judge-back : (l m : List Row) → judge (l ++ m) ≡ Verdict.Accepted → judge m ≡ Verdict.Accepted
 judge-back l m e = sym (judge-accepted l m (judge-front l m e)) ∙ e
+
+pub both : {v : Verdict} {why : Refusal} {A : Type 0} → v ≡ Verdict.Accepted → v ≡ Verdict.Refused why → A
+both e f = let z : _≡_ {A = ℕ} 0 1 = cc in absurd (omega arith)

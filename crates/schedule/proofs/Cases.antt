@@ -1,17 +1,41 @@
 -- The definitions of specs/ on small inputs: one that fits, and one refused for each part, so that no part is empty words [A2] [A7] [E2].
 -- Assumes nothing.
-use mathlib.Core.List.{[], _∷_}
-use mathlib.Core.Path.{_≡_, refl}
+use mathlib.Core.Bool.{true, false}
+use mathlib.Core.List.{List, [], _∷_}
+use mathlib.Core.Path.{_≡_, refl, _∙_, ap, sym}
+use Prim.Native.Nat.{ℕ, zero, suc, _<_}
 use native.Mathlib.Omega.{arith}
-use Rattle.bounded.specs.Bounded.{firstFrom}
+use lib.ListN.{getD}
+use Rattle.bounded.specs.Bounded.{every, firstFrom}
+use Rattle.refusal.specs.declared.Refusal.{Refusal}
 use Rattle.refusal.specs.declared.Refusal.the-variants.{TooManyTasks, MoreDownThanUp, WrongLength, BadBeat, EmptyHand, WrongTakeUps}
 use Rattle.refusal.specs.declared.Verdict.{Verdict}
+use Rattle.refusal.specs.Answer.{refusal, place}
+use Rattle.refusal.proofs.Theorems.{refused-number}
 use Rattle.triangle.specs.Count.{N}
-use Rattle.schedule.specs.Schedule.{ones, zeros, Schedule, Lists}
-use Rattle.schedule.specs.Check.{checked}
-use Rattle.schedule.specs.Meaning.{First, Bad, Bare}
+use Rattle.schedule.specs.Schedule.{ones, zeros, Schedule, isSchedule, Lists}
+use Rattle.schedule.specs.Check.{isBad, isBare, badBeat, emptyHand, checked}
+use Rattle.schedule.specs.Skip.{isOther, skipped}
+use Rattle.schedule.specs.Meaning.{First, Nowhere, Bad, Bare, Refuses, Right}
 use Rattle.schedule.proofs.Hand.{plays, plays-schedule}
-use Rattle.schedule.proofs.Theorems.{lists-N}
+use Rattle.schedule.proofs.Theorems.{refused-refuses, refuses-refused, lists-N}
+
+-- a beat of 2 is neither a one nor a zero
+ones-1102 : ones (1 ∷ 1 ∷ 0 ∷ 2 ∷ []) ≡ 2
+unfolding ones
+ones-1102 = refl
+
+no-ones : ones (0 ∷ 2 ∷ []) ≡ 0
+unfolding ones
+no-ones = refl
+
+zeros-1102 : zeros (1 ∷ 1 ∷ 0 ∷ 2 ∷ []) ≡ 1
+unfolding zeros
+zeros-1102 = refl
+
+no-zeros : zeros (1 ∷ 2 ∷ []) ≡ 0
+unfolding zeros
+no-zeros = refl
 
 fits-11010 : Schedule 3 2 (1 ∷ 1 ∷ 0 ∷ 1 ∷ 0 ∷ [])
 unfolding ones zeros plays
@@ -35,6 +59,34 @@ ahead-1001 : Schedule 2 2 (1 ∷ 0 ∷ 0 ∷ 1 ∷ []) → ⊥
 unfolding ones zeros
 ahead-1001 p = omega (arith, p .ahead 3 (omega arith))
 
+-- the same by the test
+test-11010 : isSchedule 3 2 (1 ∷ 1 ∷ 0 ∷ 1 ∷ 0 ∷ []) ≡ true
+unfolding isSchedule every ones zeros
+test-11010 = refl
+
+test-1001 : isSchedule 2 2 (1 ∷ 0 ∷ 0 ∷ 1 ∷ []) ≡ false
+unfolding isSchedule every ones zeros
+test-1001 = refl
+
+-- the empty schedule is the only one of 0, 0
+lists-empty : Lists (Schedule 0 0) ([] ∷ [])
+lists-empty = record { sound = sound; complete = complete; once = λ i j h k e. omega arith }
+  where
+    sound : (i : ℕ) → i < 1 → Schedule 0 0 (getD ([] ∷ []) i [])
+    sound zero h = fits-empty
+    sound (suc i) h = absurd (omega arith)
+
+    complete : (b : List ℕ) → Schedule 0 0 b → (i : ℕ) × (i < 1) × (getD ([] ∷ []) i [] ≡ b)
+    complete [] p = (0, omega arith, refl)
+    complete (x ∷ b) p = absurd (omega (arith, p .size))
+
+-- 111 may not stand in a list of the schedules of 2, 1, nor 110 twice
+lists-other : Lists (Schedule 2 1) ((1 ∷ 0 ∷ 1 ∷ []) ∷ (1 ∷ 1 ∷ 0 ∷ []) ∷ (1 ∷ 1 ∷ 1 ∷ []) ∷ []) → ⊥
+lists-other p = taken-111 (p .sound 2 (omega arith))
+
+lists-twice : Lists (Schedule 2 1) ((1 ∷ 0 ∷ 1 ∷ []) ∷ (1 ∷ 1 ∷ 0 ∷ []) ∷ (1 ∷ 1 ∷ 0 ∷ []) ∷ []) → ⊥
+lists-twice p = omega (arith, p .once 1 2 (omega arith) (omega arith) refl)
+
 -- the schedules of 2, 1 are two, so a list of one of them is not a list of all
 lists-one : Lists (Schedule 2 1) ((1 ∷ 1 ∷ 0 ∷ []) ∷ []) → ⊥
 unfolding N
@@ -48,9 +100,27 @@ first-bad-2 =
       before = λ j h p. let e : j ≡ 0 = omega arith in omega (arith, rw e at p);
     }
 
--- the first such beat, not the second
+-- the first such beat, not the second; a beat that is such; and one below the bound
 first-bad-3 : First (Bad (1 ∷ 2 ∷ 3 ∷ [])) 3 2 → ⊥
 first-bad-3 p = p .before 1 (omega arith) (omega arith)
+
+first-bad-1 : First (Bad (1 ∷ 2 ∷ 3 ∷ [])) 3 0 → ⊥
+first-bad-1 p = omega (arith, p .holds)
+
+first-below-1 : First (Bad (1 ∷ 2 ∷ 3 ∷ [])) 1 1 → ⊥
+first-below-1 p = omega (arith, p .inside)
+
+nowhere-below-1 : Nowhere (Bad (1 ∷ 2 ∷ 3 ∷ [])) 1
+nowhere-below-1 k h p = let e : k ≡ 0 = omega arith in omega (arith, rw e at p)
+
+somewhere-below-2 : Nowhere (Bad (1 ∷ 2 ∷ 3 ∷ [])) 2 → ⊥
+somewhere-below-2 f = f 1 (omega arith) (omega arith)
+
+bad-2 : Bad (1 ∷ 2 ∷ 3 ∷ []) 1
+bad-2 = omega arith
+
+bad-1 : Bad (1 ∷ 2 ∷ 3 ∷ []) 0 → ⊥
+bad-1 p = omega (arith, p)
 
 bare-1001 : Bare (1 ∷ 0 ∷ 0 ∷ 1 ∷ []) 2
 unfolding ones zeros
@@ -59,6 +129,57 @@ bare-1001 = (refl, omega arith)
 bare-1100 : Bare (1 ∷ 1 ∷ 0 ∷ 0 ∷ []) 3 → ⊥
 unfolding ones zeros
 bare-1100 p = omega (arith, p .1)
+
+-- taking up with an empty hand is no fault
+bare-1 : Bare (1 ∷ []) 0 → ⊥
+bare-1 p = omega (arith, p .0)
+
+-- the same by the tests
+test-bad-2 : isBad (1 ∷ 2 ∷ 3 ∷ []) 1 ≡ true
+test-bad-2 = refl
+
+test-bad-1 : isBad (1 ∷ 2 ∷ 3 ∷ []) 0 ≡ false
+test-bad-1 = refl
+
+test-bare-1001 : isBare (1 ∷ 0 ∷ 0 ∷ 1 ∷ []) 2 ≡ true
+unfolding ones zeros
+test-bare-1001 = refl
+
+test-bare-1100 : isBare (1 ∷ 1 ∷ 0 ∷ 0 ∷ []) 3 ≡ false
+unfolding ones zeros
+test-bare-1100 = refl
+
+-- the places, and the length where there is none
+bad-beat-1 : badBeat (1 ∷ 2 ∷ 3 ∷ []) ≡ 1
+unfolding firstFrom
+bad-beat-1 = refl
+
+no-bad-beat : badBeat (1 ∷ 0 ∷ 1 ∷ []) ≡ 3
+unfolding firstFrom
+no-bad-beat = refl
+
+empty-hand-2 : emptyHand (1 ∷ 0 ∷ 0 ∷ 1 ∷ []) ≡ 2
+unfolding firstFrom ones zeros
+empty-hand-2 = refl
+
+no-empty-hand : emptyHand (1 ∷ 1 ∷ 0 ∷ 0 ∷ []) ≡ 4
+unfolding firstFrom ones zeros
+no-empty-hand = refl
+
+-- another beat than 1 at the end of 110, and from there on none other than 0
+other-than-1 : isOther (1 ∷ 1 ∷ 0 ∷ []) 1 2 ≡ true
+other-than-1 = refl
+
+not-other : isOther (1 ∷ 1 ∷ 0 ∷ []) 1 1 ≡ false
+not-other = refl
+
+skips-ones : skipped (1 ∷ 1 ∷ 0 ∷ []) 0 1 ≡ 2
+unfolding firstFrom
+skips-ones = refl
+
+skips-to-end : skipped (1 ∷ 1 ∷ 0 ∷ []) 2 0 ≡ 3
+unfolding firstFrom
+skips-to-end = refl
 
 -- document 01's examples of the check, and 4 before 5 before 6
 checked-accepts : checked 3 2 (1 ∷ 1 ∷ 0 ∷ 1 ∷ 0 ∷ []) ≡ Verdict.Accepted
@@ -85,3 +206,46 @@ checked-1001 = refl
 checked-111 : checked 2 1 (1 ∷ 1 ∷ 1 ∷ []) ≡ Verdict.Refused WrongTakeUps
 unfolding ones zeros firstFrom
 checked-111 = refl
+
+-- the meaning of each refusal
+refuses-33 : Refuses 33 0 [] TooManyTasks
+refuses-33 = refused-refuses 33 0 [] TooManyTasks checked-33
+
+refuses-2-3 : Refuses 2 3 [] MoreDownThanUp
+refuses-2-3 = refused-refuses 2 3 [] MoreDownThanUp checked-2-3
+
+refuses-short : Refuses 2 1 (1 ∷ 1 ∷ []) WrongLength
+refuses-short = refused-refuses 2 1 (1 ∷ 1 ∷ []) WrongLength checked-short
+
+refuses-02 : Refuses 1 1 (0 ∷ 2 ∷ []) (BadBeat 1)
+refuses-02 = refused-refuses 1 1 (0 ∷ 2 ∷ []) (BadBeat 1) checked-02
+
+refuses-1001 : Refuses 2 2 (1 ∷ 0 ∷ 0 ∷ 1 ∷ []) (EmptyHand 2)
+refuses-1001 = refused-refuses 2 2 (1 ∷ 0 ∷ 0 ∷ 1 ∷ []) (EmptyHand 2) checked-1001
+
+refuses-111 : Refuses 2 1 (1 ∷ 1 ∷ 1 ∷ []) WrongTakeUps
+refuses-111 = refused-refuses 2 1 (1 ∷ 1 ∷ 1 ∷ []) WrongTakeUps checked-111
+
+-- 11010 is refused for nothing, 1001 at no other place, and 02 not for its empty hand
+refuses-nothing : (why : Refusal) → Refuses 3 2 (1 ∷ 1 ∷ 0 ∷ 1 ∷ 0 ∷ []) why → ⊥
+refuses-nothing why r =
+    let accepted = sym checked-accepts ∙ refuses-refused 3 2 (1 ∷ 1 ∷ 0 ∷ 1 ∷ 0 ∷ []) why r in
+    omega (arith, ap refusal accepted, refused-number why .0)
+
+refuses-elsewhere : Refuses 2 2 (1 ∷ 0 ∷ 0 ∷ 1 ∷ []) (EmptyHand 1) → ⊥
+refuses-elsewhere r = omega (arith, ap place (sym checked-1001 ∙ refuses-refused 2 2 (1 ∷ 0 ∷ 0 ∷ 1 ∷ []) (EmptyHand 1) r))
+
+refuses-no-later-row : Refuses 1 1 (0 ∷ 2 ∷ []) (EmptyHand 0) → ⊥
+refuses-no-later-row r = omega (arith, ap refusal (sym checked-02 ∙ refuses-refused 1 1 (0 ∷ 2 ∷ []) (EmptyHand 0) r))
+
+right-11010 : Right 3 2 (1 ∷ 1 ∷ 0 ∷ 1 ∷ 0 ∷ []) Verdict.Accepted
+right-11010 = ((omega arith, omega arith), fits-11010)
+
+right-1001 : Right 2 2 (1 ∷ 0 ∷ 0 ∷ 1 ∷ []) (Verdict.Refused (EmptyHand 2))
+right-1001 = refuses-1001
+
+not-right-1001 : Right 2 2 (1 ∷ 0 ∷ 0 ∷ 1 ∷ []) Verdict.Accepted → ⊥
+not-right-1001 r = ahead-1001 (r .1)
+
+not-right-11010 : (why : Refusal) → Right 3 2 (1 ∷ 1 ∷ 0 ∷ 1 ∷ 0 ∷ []) (Verdict.Refused why) → ⊥
+not-right-11010 = refuses-nothing

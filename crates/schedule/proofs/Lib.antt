@@ -9,4 +9,5 @@ pub mod Hand
 pub mod Pigeonhole
 pub mod Distinct
 pub mod Listing
+pub mod Copied
 pub mod Cases

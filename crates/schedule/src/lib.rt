@@ -56,7 +56,8 @@ struct Played {
 // The hand is counted without a branch on the beat, which could not be predicted.
 fn play(beats: &[u8]) -> Played
     requires { ⌜ ((k : ℕ) → k < length (now beats) → getD (now beats) k 0 ≤ 1) ⌝ }
-    ensures { λ r. ⌜ (r .at ≡ emptyHand (now (beats .entry))) × (r .hand + zeros (take (r .at) (now (beats .entry))) ≡ ones (take (r .at) (now (beats .entry)))) ⌝ }
+    ensures { λ r. ⌜ r .at ≡ emptyHand (now (beats .entry)) ⌝ }
+    ensures { λ r. ⌜ r .hand + zeros (take (r .at) (now (beats .entry))) ≡ ones (take (r .at) (now (beats .entry))) ⌝ }
 {
     let mut at = 0;
     let mut hand: usize = 0;

@@ -6,10 +6,19 @@ use mathlib.Core.Path.{_≡_, refl, ap}
 use Prim.Native.Nat.{ℕ}
 use native.Mathlib.Omega.{arith}
 use lib.ListN.{length, getD}
+use Rattle.bounded.specs.Bounded.{firstFrom}
+use Rattle.refusal.specs.declared.Refusal.{Refusal}
+use Rattle.refusal.specs.declared.Refusal.the-variants.{TooManyTasks, WrongLength, EmptyHand, NoSuchTables}
+use Rattle.refusal.specs.declared.Verdict.{Verdict}
+use Rattle.refusal.specs.Answer.{refusal}
+use Rattle.refusal.specs.Order.{judge}
+use Rattle.refusal.proofs.Theorems.{refused-number}
+use Rattle.schedule.specs.Schedule.{ones, zeros}
 use Rattle.tree.specs.Tree.{Tree, leaf, node, size, word, root, lefts, rights, parents}
-use Rattle.tree.specs.Table.{Has, fits}
-use Rattle.tree.specs.Planting.{adopted, rootNumber, isNext}
-use Rattle.tree.proofs.Theorems.{has-closed, one-tables}
+use Rattle.tree.specs.Table.{Has, fits, sizeRows, lentRows, Treed, filled, kept, Untreed, found, unfit}
+use Rattle.tree.specs.Table as table
+use Rattle.tree.specs.Planting.{adopted, rootNumber, isNext, Traced, whole, broken}
+use Rattle.tree.proofs.Theorems.{has-closed, one-tables, treed-one, untreed-one}
 
 -- no node: the empty schedule, and empty tables
 none : Has 0 [] [] [] []
@@ -41,6 +50,17 @@ right-child = record { tree = node leaf (node leaf leaf); nodes = refl; beats = 
 not-exchanged : Has 2 (1 ∷ 1 ∷ 0 ∷ 0 ∷ []) (0 ∷ 0 ∷ []) (2 ∷ 0 ∷ []) (0 ∷ 1 ∷ []) → ⊥
 not-exchanged q = omega (arith, ap (λ (l : List ℕ). getD l 0 0) (one-tables q left-child .0))
 
+-- nor is either of them another
+other-left : Has 2 (1 ∷ 1 ∷ 0 ∷ 0 ∷ []) (0 ∷ 0 ∷ []) (0 ∷ 0 ∷ []) (0 ∷ 1 ∷ []) → ⊥
+other-left q = omega (arith, ap (λ (l : List ℕ). getD l 0 0) (one-tables q left-child .0))
+
+other-right : Has 2 (1 ∷ 1 ∷ 0 ∷ 0 ∷ []) (2 ∷ 0 ∷ []) (2 ∷ 0 ∷ []) (0 ∷ 1 ∷ []) → ⊥
+other-right q = omega (arith, ap (λ (l : List ℕ). getD l 0 0) (one-tables q left-child .1))
+
+-- 10 is the word of one node, not of two
+other-size : (l r p : List ℕ) → Has 2 (1 ∷ 0 ∷ []) l r p → ⊥
+other-size l r p q = omega (arith, has-closed q .size)
+
 -- the final leaf is left out: 110 is no word of one node without it
 leaf-left-out : (l r p : List ℕ) → Has 1 (1 ∷ 0 ∷ 0 ∷ []) l r p → ⊥
 leaf-left-out l r p q = omega (arith, has-closed q .size)
@@ -54,6 +74,78 @@ table-short = refl
 
 beats-long : fits 2 5 2 2 2 ≡ false
 beats-long = refl
+
+-- the order of the sizes: 1 before 3
+sizes-taken : judge (sizeRows 2 4 2 2 2) ≡ Verdict.Accepted
+sizes-taken = refl
+
+sizes-33 : judge (sizeRows 33 0 0 0 0) ≡ Verdict.Refused TooManyTasks
+sizes-33 = refl
+
+sizes-short : judge (sizeRows 2 4 2 1 2) ≡ Verdict.Refused WrongLength
+sizes-short = refl
+
+lent-taken : judge (lentRows 1 (1 ∷ 0 ∷ []) (7 ∷ []) (7 ∷ []) (7 ∷ [])) ≡ Verdict.Accepted
+lent-taken = refl
+
+lent-short : judge (lentRows 1 (1 ∷ 0 ∷ []) (7 ∷ []) [] (7 ∷ [])) ≡ Verdict.Refused WrongLength
+lent-short = refl
+
+-- the way there: 10 fills its tables and is not refused; 01 is refused, and leaves what was lent
+treed-10 : Treed 1 (1 ∷ 0 ∷ []) (7 ∷ []) (7 ∷ []) (7 ∷ []) Verdict.Accepted (0 ∷ []) (0 ∷ []) (0 ∷ [])
+unfolding firstFrom ones zeros
+treed-10 = filled refl one
+
+treed-01 : Treed 1 (0 ∷ 1 ∷ []) (7 ∷ []) (7 ∷ []) (7 ∷ []) (Verdict.Refused (EmptyHand 0)) (7 ∷ []) (7 ∷ []) (7 ∷ [])
+unfolding firstFrom ones zeros
+treed-01 = kept refl
+
+treed-other : Treed 1 (1 ∷ 0 ∷ []) (7 ∷ []) (7 ∷ []) (7 ∷ []) Verdict.Accepted (0 ∷ []) (0 ∷ []) (1 ∷ []) → ⊥
+treed-other q = omega (arith, ap (λ (l : List ℕ). getD l 0 0) (treed-one q treed-10 .3))
+
+treed-refused : (why : Refusal) (l r p : List ℕ)
+    → Treed 1 (1 ∷ 0 ∷ []) (7 ∷ []) (7 ∷ []) (7 ∷ []) (Verdict.Refused why) l r p → ⊥
+treed-refused why l r p q = omega (arith, ap refusal (treed-one q treed-10 .0), refused-number why .0)
+
+treed-taken : (l r p : List ℕ) → Treed 1 (0 ∷ 1 ∷ []) (7 ∷ []) (7 ∷ []) (7 ∷ []) Verdict.Accepted l r p → ⊥
+treed-taken l r p q = omega (arith, ap refusal (treed-one q treed-01 .0))
+
+treed-changed : Treed 1 (0 ∷ 1 ∷ []) (7 ∷ []) (7 ∷ []) (7 ∷ []) (Verdict.Refused (EmptyHand 0)) (0 ∷ []) (7 ∷ []) (7 ∷ [])
+    → ⊥
+treed-changed q = omega (arith, ap (λ (l : List ℕ). getD l 0 0) (treed-one q treed-01 .1))
+
+-- the way back: tables that 10 has; tables that none has; a schedule lent too short
+untreed-10 : Untreed 1 (0 ∷ []) (0 ∷ []) (0 ∷ []) (7 ∷ 7 ∷ []) Verdict.Accepted (1 ∷ 0 ∷ [])
+untreed-10 = found refl one
+
+untreed-none : Untreed 1 (0 ∷ []) (0 ∷ []) (1 ∷ []) (7 ∷ 7 ∷ []) (Verdict.Refused NoSuchTables) (7 ∷ 7 ∷ [])
+untreed-none = table.none refl other-parent
+
+untreed-short : Untreed 1 (0 ∷ []) (0 ∷ []) (0 ∷ []) (7 ∷ []) (Verdict.Refused WrongLength) (7 ∷ [])
+untreed-short = unfit refl
+
+untreed-refused : (why : Refusal) (b : List ℕ)
+    → Untreed 1 (0 ∷ []) (0 ∷ []) (0 ∷ []) (7 ∷ 7 ∷ []) (Verdict.Refused why) b → ⊥
+untreed-refused why b q = omega (arith, ap refusal (untreed-one q untreed-10 .0), refused-number why .0)
+
+untreed-taken : (b : List ℕ) → Untreed 1 (0 ∷ []) (0 ∷ []) (1 ∷ []) (7 ∷ 7 ∷ []) Verdict.Accepted b → ⊥
+untreed-taken b q = omega (arith, ap refusal (untreed-one q untreed-none .0))
+
+untreed-changed : Untreed 1 (0 ∷ []) (0 ∷ []) (1 ∷ []) (7 ∷ 7 ∷ []) (Verdict.Refused NoSuchTables) (1 ∷ 0 ∷ []) → ⊥
+untreed-changed q = omega (arith, ap (λ (l : List ℕ). getD l 0 0) (untreed-one q untreed-none .1))
+
+-- what the reading has found, and what it may not have found
+traced-10 : Traced 1 (0 ∷ []) (0 ∷ []) (0 ∷ []) (1 ∷ 0 ∷ []) true
+traced-10 = whole one
+
+traced-none : Traced 1 (0 ∷ []) (0 ∷ []) (1 ∷ []) [] false
+traced-none = broken other-parent
+
+not-whole : (b : List ℕ) → Traced 1 (0 ∷ []) (0 ∷ []) (1 ∷ []) b true → ⊥
+not-whole b (whole q) = other-parent b q
+
+not-broken : (b : List ℕ) → Traced 1 (0 ∷ []) (0 ∷ []) (0 ∷ []) b false → ⊥
+not-broken b (broken f) = f (1 ∷ 0 ∷ []) one
 
 -- a node adopts a node, and no leaf
 adopts : adopted 2 1 (0 ∷ 0 ∷ []) ≡ 0 ∷ 1 ∷ []

@@ -16,7 +16,7 @@ use lib.ListN.{length}
 use Rattle.refusal.specs.declared.Refusal.{Refusal}
 use Rattle.refusal.specs.declared.Verdict.{Verdict}
 use Rattle.refusal.specs.Order.{judge}
-use Rattle.refusal.proofs.Order.{judge-front}
+use Rattle.refusal.proofs.Order.{judge-front, both}
 use Rattle.triangle.specs.Count.{largest}
 use Rattle.schedule.specs.Schedule.{ones, Schedule}
 use Rattle.schedule.specs.Check.{playRows}
@@ -73,10 +73,6 @@ one-tables q u =
 
 pub one-schedule : {n : ℕ} {b c l r p : List ℕ} → Has n b l r p → Has n c l r p → b ≡ c
 one-schedule {b = b} {c = c} q u = front-unique b c (q .beats ∙ ap word (reads-one (has-read q) (has-read u)) ∙ sym (u .beats))
-
--- a verdict is not both
-both : {v : Verdict} {why : Refusal} {A : Type 0} → v ≡ Verdict.Accepted → v ≡ Verdict.Refused why → A
-both e f = let z : _≡_ {A = ℕ} 0 1 = cc in absurd (omega arith)
 
 pub treed-one : {n : ℕ} {b l r p : List ℕ} {v w : Verdict} {x y z x′ y′ z′ : List ℕ}
     → Treed n b l r p v x y z → Treed n b l r p w x′ y′ z′ → (v ≡ w) × (x ≡ x′) × (y ≡ y′) × (z ≡ z′)

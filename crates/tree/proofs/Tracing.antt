@@ -8,7 +8,6 @@
 --                         node, or that has another parent
 --     trace-end           when the beats are full, the tables are theirs exactly if the last slot is a leaf
 --     traced-whole, traced-broken     what the loop's answer says
---     copied              a list copied over one of its length
 --     has-read            the tree that a schedule and its tables have is read from the tables
 --     next-so, next-not   the test for the next node, as a fact
 -- Assumes nothing.
@@ -23,7 +22,7 @@ use native.Mathlib.Decide.{ℕ-discrete}
 use borrow.Author.Tests.{lt-ltb, eq-eqb, ne-eqb, ltb-true, eqb-true}
 use lib.Dec.{eqb, ltb}
 use lib.ListN.{length, getD, set, take, drop, length-set}
-use lib.Seq.{take-all, take-length, drop-length, take-suc-set, getD-set-same, getD-set-other}
+use lib.Seq.{take-all, take-suc-set, getD-set-same, getD-set-other}
 use Rattle.schedule.specs.Schedule.{ones, zeros}
 use Rattle.tree.specs.Tree.{Tree, leaf, node, size, word, root, rights, parents}
 use Rattle.tree.specs.Planting.{rootNumber, isNext, Traced, whole, broken}
@@ -291,7 +290,3 @@ module _ {n : ℕ} {l r p b : List ℕ} where
   pub traced-broken : {v : Bool} → Traced n l r p b v → v ≡ false → (c : List ℕ) → Has n c l r p → ⊥
   traced-broken (whole q) e = absurd (true≢false e)
   traced-broken (broken f) e = f
-
--- a list copied over one of its length
-pub copied : (src dst : List ℕ) → length src ≡ length dst → take (length src) src ++ drop (length src) dst ≡ src
-copied src dst e = rw (take-length src) (ap (λ (j : ℕ). src ++ drop j dst) e ∙ ap (λ (w : List ℕ). src ++ w) (drop-length dst) ∙ append-nil src)

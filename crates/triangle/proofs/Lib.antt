@@ -4,3 +4,4 @@ pub mod Rule
 pub mod Parts
 pub mod Filling
 pub mod Theorems
+pub mod Cases

@@ -1,9 +1,9 @@
 -- `circle::walk_copy` meets its contract: the room holds the beats when the walk begins. Assumes nothing.
-use mathlib.Core.List.{List, append-nil}
+use mathlib.Core.List.{List}
 use mathlib.Core.Path.{_≡_, _∙_, ap, sym, subst}
 use Prim.Native.Nat.{ℕ}
 use borrow.Author.Needs.{needs}
-use lib.Seq.{take-length, drop-length}
+use Rattle.schedule.proofs.Copied.{copied}
 use Rattle.circle.specs.Walk.{worked}
 use Rattle.circle.specs.Plan.{Form}
 use Rattle.circle.proofs.walk_copy.Statement.{statement}
@@ -20,15 +20,13 @@ module _ (c : tie.After-copy) where
   abbrev beats : List ℕ
   beats = start .args .beats .now
 
-  copied : c .copy .last .1 .0 ≡ beats
-  copied =
-      c .copy .ensures .1
-      ∙ rw (take-length beats, ← (start .pre .1), drop-length (start .args .room .now)) (append-nil beats)
+  made-is : c .copy .last .1 .0 ≡ beats
+  made-is = c .copy .ensures .1 ∙ copied beats (start .args .room .now) (sym (start .pre .1))
 
 walk-requires : tie.Need-walk-requires
 walk-requires c κs =
     let made = c .before .before .before in
-    (subst Form (sym (copied made)) (start made .pre .0), start made .pre .2)
+    (subst Form (sym (made-is made)) (start made .pre .0), start made .pre .2)
 
 same-length : tie.Need-same-length
 same-length c = search needs
@@ -37,7 +35,7 @@ returns : tie.Need-returns
 returns c =
     let walked = c .before .before in
     let made = walked .before .before .before .before in
-    walked .walk .ensures .1 ∙ ap (worked (start made .args .k)) (copied made)
+    walked .walk .ensures .1 ∙ ap (worked (start made .args .k)) (made-is made)
 
 pub walk-copy-spec : {M : Type 1} → statement M
 walk-copy-spec = tie.close (tie.spec copy-requires walk-requires same-length returns)

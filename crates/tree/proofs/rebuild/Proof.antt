@@ -6,7 +6,8 @@ use lib.ListN.{length}
 use Rattle.triangle.specs.Count.{largest}
 use Rattle.tree.specs.Table.{Has, found, none}
 use Rattle.tree.proofs.Sizes.{sizes-right}
-use Rattle.tree.proofs.Tracing.{traced-whole, traced-broken, copied}
+use Rattle.schedule.proofs.Copied.{copied}
+use Rattle.tree.proofs.Tracing.{traced-whole, traced-broken}
 use borrow.Author.Needs.{needs}
 use Rattle.tree.proofs.rebuild.Statement.{statement}
 use Rattle.tree.proofs.rebuild.Tie as tie

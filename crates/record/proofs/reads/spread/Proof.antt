@@ -12,12 +12,13 @@ use Rattle.refusal.specs.declared.Verdict.{Verdict}
 use Rattle.refusal.specs.Answer.{answer}
 use Rattle.refusal.specs.Order.{judge}
 use Rattle.schedule.specs.Check.{checked}
+use Rattle.schedule.proofs.Copied.{copied}
 use Rattle.number.specs.Number.{numberOf}
 use Rattle.record.specs.Bytes.{bytesFor, unpacked, unused}
 use Rattle.record.specs.Record.{beaten, bodyRows}
 use Rattle.record.specs.Reading.{told}
 use Rattle.record.proofs.Packing.{length-tabulate}
-use Rattle.record.proofs.Verdicts.{late-check, told-refused, told-accepted, left-refused, left-accepted, hand-checked, spoiled-bits, spoiled-not, answer-refused, answer-value, copied, unpacked-beats}
+use Rattle.record.proofs.Verdicts.{late-check, told-refused, told-accepted, left-refused, left-accepted, hand-checked, spoiled-bits, spoiled-not, answer-refused, answer-value, unpacked-beats}
 use borrow.Author.Needs.{needs}
 use Rattle.record.proofs.reads.spread.Statement.{statement}
 use Rattle.record.proofs.reads.spread.Tie as tie

@@ -1,0 +1,161 @@
+-- The definitions of specs/ on examples that do not hold, beside small ones that do, so that the list of examples says
+-- something; of each kind of example one that is wrong. In each of the three relations the empty list says nothing.
+-- Assumes nothing.
+use mathlib.Core.List.{List, [], _∷_}
+use mathlib.Core.Logic.{⊎-elim}
+use mathlib.Core.Path.{_≡_, refl, ap}
+use Prim.Native.Nat.{ℕ}
+use native.Mathlib.Omega.{arith}
+use lib.ListN.{getD}
+use Rattle.bounded.specs.Bounded.{every, firstFrom}
+use Rattle.triangle.specs.Count.{N}
+use Rattle.schedule.specs.Schedule.{ones, zeros, isSchedule}
+use Rattle.circle.specs.Step.{shift, found, has01, movesNext, next}
+use Rattle.circle.specs.Walk.{steps, changed, worked}
+use Rattle.tree.proofs.Theorems.{has-closed}
+use Rattle.refusal.specs.declared.Answer.{Answer}
+use Rattle.refusal.specs.declared.Verdict.{Verdict}
+use Rattle.circle.specs.Step.{top}
+use Rattle.circle.proofs.Circle.{top-schedule}
+use Rattle.demands.specs.Calls.{Call, count, check, read, lent, Says, Gives, silenced, CountsOf, of-count, of-check, of-next, of-run, BeatsOf, in-check, Owed, beats}
+use Rattle.demands.specs.Demands.{Wrong, counts-above, Demand2, Between, Demand3, Demand3All}
+use Rattle.demands.proofs.Accepted.{accepted-counts, accepted-beats, accepted-owed, call-refused}
+use Rattle.demands.proofs.Demands.{demands}
+use Rattle.demands.specs.Examples.{InOrder, Changing, Numbering, Holds, counts, follows, changes, rounds, numbers, links}
+
+-- 110, then 101; not 110 again
+in-order : InOrder (1 ∷ 1 ∷ 0 ∷ []) ((1 ∷ 1 ∷ 0 ∷ []) ∷ (1 ∷ 0 ∷ 1 ∷ []) ∷ [])
+unfolding every firstFrom ones zeros isSchedule shift found has01 movesNext next
+in-order = (refl, (refl, tt))
+
+not-in-order : InOrder (1 ∷ 1 ∷ 0 ∷ []) ((1 ∷ 1 ∷ 0 ∷ []) ∷ (1 ∷ 1 ∷ 0 ∷ []) ∷ []) → ⊥
+unfolding every firstFrom ones zeros isSchedule shift found has01 movesNext next
+not-in-order p = let clash : _≡_ {A = ℕ} 0 1 = ap (λ (l : List ℕ). getD l 1 0) (p .1 .0) in omega arith
+
+-- two beats, not three
+changing-2 : Changing (1 ∷ 1 ∷ 0 ∷ []) (2 ∷ [])
+unfolding every firstFrom ones zeros isSchedule shift found has01 movesNext next changed
+changing-2 = (refl, tt)
+
+changing-3 : Changing (1 ∷ 1 ∷ 0 ∷ []) (3 ∷ []) → ⊥
+unfolding every firstFrom ones zeros isSchedule shift found has01 movesNext next changed
+changing-3 p = omega (arith, p .0)
+
+-- 110 has the number 0 and 101 the number 1; the numbers do not begin at 101
+numbering-0 : Numbering 2 1 0 ((1 ∷ 1 ∷ 0 ∷ []) ∷ (1 ∷ 0 ∷ 1 ∷ []) ∷ [])
+unfolding N every firstFrom ones zeros isSchedule shift found has01 movesNext next steps changed
+numbering-0 = ((refl, refl), ((refl, refl), tt))
+
+numbering-101 : Numbering 2 1 0 ((1 ∷ 0 ∷ 1 ∷ []) ∷ []) → ⊥
+unfolding N every firstFrom ones zeros isSchedule shift found has01 movesNext next steps changed
+numbering-101 p = omega (arith, p .0 .0)
+
+-- of each kind an example that does not hold
+not-counts : Holds (counts 5 3 27) → ⊥
+unfolding N
+not-counts p = omega (arith, p)
+
+not-follows : Holds (follows 2 1 ((1 ∷ 1 ∷ 0 ∷ []) ∷ (1 ∷ 1 ∷ 0 ∷ []) ∷ [])) → ⊥
+not-follows = not-in-order
+
+not-changes : Holds (changes 1 1 (2 ∷ [])) → ⊥
+unfolding every firstFrom ones zeros isSchedule shift found has01 movesNext next changed
+not-changes p = omega (arith, p .0)
+
+not-rounds : Holds (rounds 3 2 10) → ⊥
+unfolding N every firstFrom ones zeros isSchedule shift found has01 movesNext next steps changed worked
+not-rounds p = omega (arith, p)
+
+not-numbers : Holds (numbers 2 1 ((1 ∷ 0 ∷ 1 ∷ []) ∷ [])) → ⊥
+not-numbers = numbering-101
+
+not-links : Holds (links (1 ∷ 0 ∷ 0 ∷ []) (0 ∷ []) (0 ∷ []) (0 ∷ [])) → ⊥
+not-links p = omega (arith, has-closed p .size)
+
+-- what is lent to a check and to a count; what is 0 after a refused count and after a refused read
+lent-beats : lent (check 1 0 (1 ∷ [])) ≡ (1 ∷ []) ∷ []
+lent-beats = refl
+
+lent-nothing : lent (count 1 0) ≡ []
+lent-nothing = refl
+
+silenced-count : silenced (count 1 0) (1 ∷ []) ≡ 1 ∷ []
+silenced-count = refl
+
+silenced-read : silenced (read [] []) (1 ∷ 2 ∷ 3 ∷ 4 ∷ []) ≡ 1 ∷ 2 ∷ 3 ∷ []
+silenced-read = refl
+
+-- an answer of 3 says 3 and no refusal
+says-3 : Says (Answer.Value 3) Verdict.Accepted (3 ∷ [])
+says-3 = (refl, refl)
+
+says-4 : Says (Answer.Value 3) Verdict.Accepted (4 ∷ []) → ⊥
+says-4 p = let clash : _≡_ {A = ℕ} 4 3 = ap (λ (l : List ℕ). getD l 0 0) (p .1) in omega arith
+
+-- a count of (2,1) gives 2, and one of (2,3) is not accepted
+gives-2 : Gives (count 2 1) Verdict.Accepted (2 ∷ []) []
+unfolding N
+gives-2 = ((refl, refl), refl)
+
+gives-none : Gives (count 2 3) Verdict.Accepted (0 ∷ []) [] → ⊥
+gives-none p = omega (arith, accepted-counts {t = 2} {s = 3} (0 ∷ []) [] of-count p .1)
+
+-- the counts and the beats of a call are its own, and a form has to be as long as its counts say
+counts-2-1 : CountsOf (count 2 1) 2 1
+counts-2-1 = of-count
+
+counts-1-2 : CountsOf (count 2 1) 1 2 → ⊥
+counts-1-2 p = omega (arith, accepted-counts {t = 1} {s = 2} (2 ∷ []) [] p gives-2 .1)
+
+checks-1 : Gives (check 1 0 (1 ∷ [])) Verdict.Accepted [] ((1 ∷ []) ∷ [])
+unfolding firstFrom ones zeros
+checks-1 = ((refl, refl), refl)
+
+beats-1 : BeatsOf (check 1 0 (1 ∷ [])) (1 ∷ [])
+beats-1 = in-check
+
+beats-0 : BeatsOf (check 1 0 (1 ∷ [])) (0 ∷ []) → ⊥
+unfolding ones
+beats-0 p = omega (arith, accepted-beats [] ((1 ∷ []) ∷ []) of-check p checks-1 .taken)
+
+owed-1 : Owed (check 1 0 (1 ∷ [])) (1 ∷ []) 1
+owed-1 = beats of-check in-check
+
+owed-2 : Owed (check 1 0 (1 ∷ [])) (1 ∷ []) 2 → ⊥
+owed-2 p = omega (arith, accepted-owed [] ((1 ∷ []) ∷ []) p checks-1)
+
+-- a count of (33,0) is wrong, and one of (2,1) is not
+wrong-33 : Wrong (count 33 0)
+wrong-33 = counts-above {t = 33} {s = 0} of-count (omega arith)
+
+wrong-2-1 : Wrong (count 2 1) → ⊥
+wrong-2-1 p = call-refused (count 2 1) (2 ∷ []) [] p gives-2
+
+-- the demands are met by allowed counts, and not by 33 tasks
+demand-2-3 : Demand2 3 2
+demand-2-3 = demands .second 3 2 (omega arith, omega arith)
+
+demand-2-33 : Demand2 33 0 → ⊥
+demand-2-33 p = omega (arith, accepted-counts {t = 33} {s = 0} _ _ of-next (p .next-form (top 33 0) (top-schedule 33 0 (omega arith))) .0)
+
+demand-3-all-3 : Demand3All 3 2
+demand-3-all-3 = demands .third-all 3 2 (omega arith, omega arith)
+
+demand-3-all-33 : Demand3All 33 0 → ⊥
+demand-3-all-33 p = omega (arith, accepted-counts {t = 33} {s = 0} _ _ (of-run {k = 0}) (p .run-given (top 33 0) 0 (top-schedule 33 0 (omega arith)) (omega arith)) .0)
+
+-- the round is met by (3,2); (1,1) has one form, whose step changes nothing
+demand-3-3 : Demand3 3 2
+demand-3-3 = demands .third 3 2 (omega arith, omega arith) (omega arith) (omega arith)
+
+demand-3-1 : Demand3 1 1 → ⊥
+unfolding every firstFrom ones zeros isSchedule shift found has01 movesNext next changed
+demand-3-1 p = ⊎-elim (λ two. omega (arith, two)) (λ four. omega (arith, four)) (p .step-changes (top 1 1) (top-schedule 1 1 (omega arith)))
+
+-- 110 is met again at the end of its round; where there is no form, nothing leads anywhere
+between-2-1 : Between 2 1 (top 2 1) (top 2 1)
+between-2-1 = demands .third 2 1 (omega arith, omega arith) (omega arith) (omega arith) .every-form-once (top 2 1) (top 2 1) (top-schedule 2 1 (omega arith)) (top-schedule 2 1 (omega arith))
+
+between-0-1 : Between 0 1 [] [] → ⊥
+unfolding N
+between-0-1 p = omega (arith, p .from, p .to)

@@ -1,0 +1,183 @@
+-- The definitions of specs/ on small inputs, by computing them: for each predicate and test one that fits and one
+-- refused for each part, and for each other definition two values. The examples marked P are in the crate `demands`.
+-- Assumes nothing.
+use mathlib.Core.Bool.{true, false}
+use mathlib.Core.List.{List, [], _∷_}
+use mathlib.Core.Path.{_≡_, refl, ap}
+use Prim.Native.Nat.{ℕ}
+use native.Mathlib.Omega.{arith}
+use lib.ListN.{getD}
+use Rattle.bounded.specs.Bounded.{every, firstFrom}
+use Rattle.refusal.specs.declared.Refusal.the-variants.{NoSuchNumber}
+use Rattle.refusal.specs.declared.Verdict.{Verdict}
+use Rattle.refusal.specs.Order.{judge}
+use Rattle.triangle.specs.Count.{N}
+use Rattle.schedule.specs.Schedule.{ones, zeros, Schedule, isSchedule, Lists}
+use Rattle.schedule.proofs.Hand.{plays, plays-schedule}
+use Rattle.circle.specs.Step.{shift, found, has01, movesNext, next}
+use Rattle.circle.specs.Walk.{steps, changed}
+use Rattle.number.specs.Number.{Fewest, same, numberOf, formOf}
+use Rattle.number.specs.Groups.{upTo, lastGroup, ending, S}
+use Rattle.number.specs.Ranking.{isSized, goesOn, Ranks, placeOf, floorOf}
+use Rattle.number.specs.Answers.{numberRows, onSheet}
+use Rattle.number.proofs.Theorems.{number-fewest, S-lists}
+
+schedule-11010 : Schedule 3 2 (1 ∷ 1 ∷ 0 ∷ 1 ∷ 0 ∷ [])
+unfolding ones zeros plays
+schedule-11010 = plays-schedule refl refl refl
+
+schedule-1001 : Schedule 2 2 (1 ∷ 0 ∷ 0 ∷ 1 ∷ []) → ⊥
+unfolding ones zeros
+schedule-1001 p = omega (arith, p .ahead 3 (omega arith))
+
+-- 11010 is two steps from 11100; one step leads to another form, and seven lead there again
+number-11010 : numberOf 3 2 (1 ∷ 1 ∷ 0 ∷ 1 ∷ 0 ∷ []) ≡ 2
+unfolding N every firstFrom ones zeros isSchedule shift found has01 movesNext next steps changed
+number-11010 = refl
+
+number-10101 : numberOf 3 2 (1 ∷ 0 ∷ 1 ∷ 0 ∷ 1 ∷ []) ≡ 3
+unfolding N every firstFrom ones zeros isSchedule shift found has01 movesNext next steps changed
+number-10101 = refl
+
+form-2 : formOf 3 2 2 ≡ 1 ∷ 1 ∷ 0 ∷ 1 ∷ 0 ∷ []
+unfolding every firstFrom ones zeros isSchedule shift found has01 movesNext next steps
+form-2 = refl
+
+form-3 : formOf 3 2 3 ≡ 1 ∷ 0 ∷ 1 ∷ 0 ∷ 1 ∷ []
+unfolding every firstFrom ones zeros isSchedule shift found has01 movesNext next steps
+form-3 = refl
+
+fewest-2 : Fewest 3 2 (1 ∷ 1 ∷ 0 ∷ 1 ∷ 0 ∷ []) 2
+unfolding N every firstFrom ones zeros isSchedule shift found has01 movesNext next steps changed
+fewest-2 = number-fewest schedule-11010
+
+fewest-1 : Fewest 3 2 (1 ∷ 1 ∷ 0 ∷ 1 ∷ 0 ∷ []) 1 → ⊥
+unfolding every firstFrom ones zeros isSchedule shift found has01 movesNext next steps
+fewest-1 p = let clash : _≡_ {A = ℕ} 0 1 = ap (λ (l : List ℕ). getD l 1 0) (p .leads) in omega arith
+
+fewest-7 : Fewest 3 2 (1 ∷ 1 ∷ 0 ∷ 1 ∷ 0 ∷ []) 7 → ⊥
+fewest-7 p = p .none-before 2 (omega arith) form-2
+
+-- equal lists; another beat; one beat more
+same-101 : same (1 ∷ 0 ∷ 1 ∷ []) (1 ∷ 0 ∷ 1 ∷ []) ≡ true
+unfolding changed
+same-101 = refl
+
+other-110 : same (1 ∷ 0 ∷ 1 ∷ []) (1 ∷ 1 ∷ 0 ∷ []) ≡ false
+unfolding changed
+other-110 = refl
+
+longer-1011 : same (1 ∷ 0 ∷ 1 ∷ []) (1 ∷ 0 ∷ 1 ∷ 1 ∷ []) ≡ false
+unfolding changed
+longer-1011 = refl
+
+-- the groups: 1 and 2, none; up to s, or to s − 1 if t = s; the zeros behind the 1 of an ending
+up-to-2 : upTo (λ i. (i ∷ []) ∷ []) 2 ≡ (1 ∷ []) ∷ (2 ∷ []) ∷ []
+unfolding upTo
+up-to-2 = refl
+
+up-to-0 : upTo (λ i. (i ∷ []) ∷ []) 0 ≡ []
+unfolding upTo
+up-to-0 = refl
+
+last-3-2 : lastGroup 3 2 ≡ 2
+last-3-2 = refl
+
+last-2-2 : lastGroup 2 2 ≡ 1
+last-2-2 = refl
+
+ending-1 : ending 2 1 (1 ∷ 0 ∷ []) ≡ 1 ∷ 0 ∷ 1 ∷ 0 ∷ []
+ending-1 = refl
+
+ending-2 : ending 2 2 (1 ∷ 0 ∷ []) ≡ 1 ∷ 0 ∷ 1 ∷ []
+ending-2 = refl
+
+-- number 0 closes the list
+S-2-1 : S 2 1 ≡ (1 ∷ 0 ∷ 1 ∷ []) ∷ (1 ∷ 1 ∷ 0 ∷ []) ∷ []
+unfolding S upTo
+S-2-1 = refl
+
+S-2-2 : S 2 2 ≡ (1 ∷ 0 ∷ 1 ∷ 0 ∷ []) ∷ (1 ∷ 1 ∷ 0 ∷ 0 ∷ []) ∷ []
+unfolding S upTo
+S-2-2 = refl
+
+-- and so these two are all schedules of 2, 1
+lists-two : Lists (Schedule 2 1) ((1 ∷ 0 ∷ 1 ∷ []) ∷ (1 ∷ 1 ∷ 0 ∷ []) ∷ [])
+unfolding S upTo
+lists-two = S-lists (omega arith)
+
+-- the sizes: those of 11010; a task too many; a set-down too many; a beat too few
+sized-5 : isSized 3 2 (1 ∷ 1 ∷ 0 ∷ 1 ∷ 0 ∷ []) ≡ true
+sized-5 = refl
+
+unsized-33 : isSized 33 0 [] ≡ false
+unsized-33 = refl
+
+unsized-1-2 : isSized 1 2 (1 ∷ 0 ∷ 0 ∷ []) ≡ false
+unsized-1-2 = refl
+
+unsized-4 : isSized 3 2 (1 ∷ 1 ∷ 0 ∷ 1 ∷ []) ≡ false
+unsized-4 = refl
+
+-- behind 110, of a schedule of 3 ones: a 0 may stand; a 2 may not; behind 1 0 no 0 may; behind 1110 no 1 may
+goes-on : goesOn 3 2 1 0 ≡ true
+goes-on = refl
+
+no-beat : goesOn 3 2 1 2 ≡ false
+no-beat = refl
+
+nothing-in-hand : goesOn 3 1 1 0 ≡ false
+nothing-in-hand = refl
+
+one-too-many : goesOn 3 3 1 1 ≡ false
+one-too-many = refl
+
+-- 11010 is whole and has the number 2, and no other; 1001 is not whole
+ranks-2 : Ranks 3 2 (1 ∷ 1 ∷ 0 ∷ 1 ∷ 0 ∷ []) true 2
+unfolding N every firstFrom ones zeros isSchedule shift found has01 movesNext next steps changed
+ranks-2 = ((omega arith, omega arith), schedule-11010, refl)
+
+ranks-not-3 : Ranks 3 2 (1 ∷ 1 ∷ 0 ∷ 1 ∷ 0 ∷ []) true 3 → ⊥
+ranks-not-3 p = omega (arith, p .2, number-11010)
+
+ranks-whole : Ranks 3 2 (1 ∷ 1 ∷ 0 ∷ 1 ∷ 0 ∷ []) false 2 → ⊥
+ranks-whole f = f (omega arith, omega arith) schedule-11010
+
+ranks-1001 : Ranks 2 2 (1 ∷ 0 ∷ 0 ∷ 1 ∷ []) false 0
+ranks-1001 a p = schedule-1001 p
+
+ranks-not-1001 : (n : ℕ) → Ranks 2 2 (1 ∷ 0 ∷ 0 ∷ 1 ∷ []) true n → ⊥
+ranks-not-1001 n p = schedule-1001 (p .1)
+
+-- places in a list S of five forms, and floors
+place-0 : placeOf 5 0 ≡ 5
+unfolding placeOf
+place-0 = refl
+
+place-2 : placeOf 5 2 ≡ 2
+unfolding placeOf
+place-2 = refl
+
+floor-3-2 : floorOf 3 2 ≡ 3
+unfolding floorOf N
+floor-3-2 = refl
+
+floor-3-0 : floorOf 3 0 ≡ 0
+unfolding floorOf
+floor-3-0 = refl
+
+-- the last number of 3, 2, and one past it
+taken-4 : judge (numberRows 3 2 4) ≡ Verdict.Accepted
+unfolding N
+taken-4 = refl
+
+beyond-5 : judge (numberRows 3 2 5) ≡ Verdict.Refused NoSuchNumber
+unfolding N
+beyond-5 = refl
+
+-- a form from column 1 on, and from column 0 on
+sheet-1 : onSheet 1 (1 ∷ 0 ∷ []) (7 ∷ 7 ∷ 7 ∷ 7 ∷ []) ≡ 7 ∷ 1 ∷ 0 ∷ 7 ∷ []
+sheet-1 = refl
+
+sheet-0 : onSheet 0 (1 ∷ 0 ∷ []) (7 ∷ 7 ∷ 7 ∷ 7 ∷ []) ≡ 1 ∷ 0 ∷ 7 ∷ 7 ∷ []
+sheet-0 = refl

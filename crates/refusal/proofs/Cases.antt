@@ -1,0 +1,88 @@
+-- The definitions of specs/ on small inputs: for each one value and another. That number and place tell every two
+-- refusals apart is `same-refusal` in Theorems. Assumes nothing.
+use mathlib.Core.Bool.{true, false}
+use mathlib.Core.List.{List, [], _∷_}
+use mathlib.Core.Path.{_≡_, refl, _∙_, ap, sym}
+use native.Mathlib.Omega.{arith}
+use Rattle.refusal.specs.declared.Answer.{Answer}
+use Rattle.refusal.specs.declared.Refusal.the-variants.{TooManyTasks, MoreDownThanUp, WrongLength, BadBeat, EmptyHand, RunTooLong}
+use Rattle.refusal.specs.declared.Verdict.{Verdict}
+use Rattle.refusal.specs.Refusal.{numberOf, placeOf}
+use Rattle.refusal.specs.Answer.{refusal, place, verdict, value, answer}
+use Rattle.refusal.specs.Order.{Row, _⇒_, judge, test, reason}
+use Rattle.refusal.proofs.Theorems.{Given, refused-given, given-refused}
+
+-- the first and the last row of the table; a place that is a beat, and one that is not
+number-1 : numberOf TooManyTasks ≡ 1
+number-1 = refl
+
+number-13 : numberOf RunTooLong ≡ 13
+number-13 = refl
+
+place-3 : placeOf (BadBeat 3) ≡ 3
+place-3 = refl
+
+no-place : placeOf WrongLength ≡ 0
+no-place = refl
+
+-- a verdict as numbers
+accepted-refusal : refusal Verdict.Accepted ≡ 0
+accepted-refusal = refl
+
+refused-refusal : refusal (Verdict.Refused (EmptyHand 2)) ≡ 5
+refused-refusal = refl
+
+accepted-place : place Verdict.Accepted ≡ 0
+accepted-place = refl
+
+refused-place : place (Verdict.Refused (EmptyHand 2)) ≡ 2
+refused-place = refl
+
+-- the parts of an answer, and the answer from its parts: a refused call has no value
+accepted-verdict : verdict (Answer.Value 7) ≡ Verdict.Accepted
+accepted-verdict = refl
+
+refused-verdict : verdict (Answer.Refused WrongLength) ≡ Verdict.Refused WrongLength
+refused-verdict = refl
+
+accepted-value : value (Answer.Value 7) ≡ 7
+accepted-value = refl
+
+refused-value : value (Answer.Refused WrongLength) ≡ 0
+refused-value = refl
+
+accepted-answer : answer Verdict.Accepted 7 ≡ Answer.Value 7
+accepted-answer = refl
+
+refused-answer : answer (Verdict.Refused WrongLength) 7 ≡ Answer.Refused WrongLength
+refused-answer = refl
+
+-- a row that holds and one that does not, and two reasons
+row-holds : test (true ⇒ TooManyTasks) ≡ true
+row-holds = refl
+
+row-fails : test (false ⇒ TooManyTasks) ≡ false
+row-fails = refl
+
+reason-1 : reason (true ⇒ TooManyTasks) ≡ TooManyTasks
+reason-1 = refl
+
+reason-2 : reason (true ⇒ MoreDownThanUp) ≡ MoreDownThanUp
+reason-2 = refl
+
+-- the first row that holds refuses; where none does, the call is accepted
+abbrev rows : List Row
+rows = (false ⇒ TooManyTasks) ∷ (true ⇒ MoreDownThanUp) ∷ (true ⇒ WrongLength) ∷ []
+
+judged-second : judge rows ≡ Verdict.Refused MoreDownThanUp
+judged-second = refl
+
+judged-none : judge ((false ⇒ TooManyTasks) ∷ (false ⇒ MoreDownThanUp) ∷ []) ≡ Verdict.Accepted
+judged-none = refl
+
+-- in the words of the theorems: 2 is given, and 3 is not, though its row holds too
+given-second : Given rows MoreDownThanUp
+given-second = refused-given rows MoreDownThanUp judged-second
+
+not-given-third : Given rows WrongLength → ⊥
+not-given-third g = omega (arith, ap refusal (sym judged-second ∙ given-refused rows WrongLength g))

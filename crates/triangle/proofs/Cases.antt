@@ -1,0 +1,55 @@
+-- The definitions of specs/ on small inputs: for each one value and another. Assumes nothing.
+use mathlib.Core.List.{List, [], _∷_}
+use mathlib.Core.Path.{_≡_, refl}
+use native.Mathlib.Omega.{arith}
+use Rattle.triangle.specs.Count.{N, C, counted, place, Counts}
+use Rattle.triangle.specs.Table.{at}
+
+-- five schedules of 3, 2, and none that sets down more than it takes up
+five : N 3 2 ≡ 5
+unfolding N
+five = refl
+
+none : N 2 3 ≡ 0
+unfolding N
+none = refl
+
+-- ten ways to take two of five things, and none to take five of two
+ten-ways : C 5 2 ≡ 10
+unfolding C
+ten-ways = refl
+
+no-way : C 2 5 ≡ 0
+unfolding C
+no-way = refl
+
+-- the largest count, and one past it
+counted-32 : counted 32 1 ≡ 32
+unfolding counted N
+counted-32 = refl
+
+not-counted-33 : counted 33 1 ≡ 0
+unfolding counted
+not-counted-33 = refl
+
+-- two entries of the table
+entry-28 : at 5 3 ≡ 28
+entry-28 = refl
+
+entry-572 : at 8 5 ≡ 572
+entry-572 = refl
+
+-- the count of (2,1) stands behind those of (0,0), (1,0), (1,1) and (2,0); that of (0,0) is the first
+place-4 : place 2 1 ≡ 4
+place-4 = refl
+
+place-0 : place 0 0 ≡ 0
+place-0 = refl
+
+-- an empty list of counts is right as far as it goes; one that begins with 2 is not
+counts-empty : Counts []
+counts-empty = λ t s h k l. absurd (omega arith)
+
+counts-2 : Counts (2 ∷ []) → ⊥
+unfolding N
+counts-2 p = omega (arith, p 0 0 (omega arith) (omega arith) (omega arith))
