@@ -31,8 +31,8 @@ use Rattle.tree.specs.Table.{lentRows, treeRows, Treed, filled, kept, Untreed, 
 use Rattle.tree.proofs.Sizes.{sizes-right}
 use Rattle.tree.proofs.Theorems.{tree-accepts}
 use Rattle.record.specs.Record.{isUnknown, kindOf, roomRow, writeRows, readRows, cut}
-use Rattle.record.proofs.Parts.{read-facts}
-use Rattle.record.proofs.Meaning.{read-means}
+use Rattle.reading.proofs.Parts.{read-facts}
+use Rattle.reading.proofs.Meaning.{read-means}
 use Rattle.demands.specs.Calls.{Call, Gives}
 use Rattle.demands.specs.Calls.{CountsOf, of-count, of-check, of-next, of-changed, of-run, of-run-changed, of-number, of-form, of-form-on-sheet, of-tree, of-schedule-of-tree, of-read, of-write}
 use Rattle.demands.specs.Calls.{BeatsOf, in-check, in-next, in-changed, in-run, in-run-changed, in-number, in-tree, in-write}

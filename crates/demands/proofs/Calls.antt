@@ -22,9 +22,9 @@ use Rattle.number.specs.Answers.{numberAnswer}
 use Rattle.tree.specs.Table.{Treed, filled, kept, Untreed, found, none, unfit}
 use Rattle.tree.proofs.Theorems.{treed-one, untreed-one}
 use Rattle.record.specs.Record.{recordOf, writeRows, writeAnswer, readRows}
-use Rattle.record.specs.declared.Reading.{Reading}
-use Rattle.record.specs.Reading.{told, readAnswer}
-use Rattle.record.specs.Reading as said
+use Rattle.reading.specs.declared.Reading.{Reading}
+use Rattle.reading.specs.Reading.{told, readAnswer}
+use Rattle.reading.specs.Reading as said
 use Rattle.demands.specs.Calls.{Call, count, check, next, changed, run, run-changed, number, form, form-on-sheet, tree, schedule-of-tree, read, write, lent, Says, Gives, silenced}
 
 -- an answer and the verdict that it was made from

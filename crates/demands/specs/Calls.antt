@@ -20,8 +20,8 @@ use Rattle.circle.specs.Answers.{nextAnswer, nextLeft, runAnswer, runLeft}
 use Rattle.number.specs.Answers.{numberAnswer, formVerdict, formLeft, sheetVerdict, sheetLeft}
 use Rattle.tree.specs.Table.{Treed, Untreed}
 use Rattle.record.specs.Record.{ups, downs, writeAnswer, writeLeft}
-use Rattle.record.specs.Reading.{readAnswer, readLeft}
-use Rattle.record.specs.Reading as said
+use Rattle.reading.specs.Reading.{readAnswer, readLeft}
+use Rattle.reading.specs.Reading as said
 
 pub data Call : Type 0 where
   count : (t s : ℕ) → Call

@@ -21,14 +21,14 @@ use Rattle.triangle.specs.Count.{largest}
 use Rattle.counts.specs.Counts.{Allowed}
 use Rattle.schedule.specs.Schedule.{Schedule}
 use Rattle.circle.specs.Answers.{left}
-use Rattle.record.specs.declared.Order.{Order}
-use Rattle.record.specs.declared.Reading.{Reading}
 use Rattle.record.specs.Record.{long, kindIn, ups, downs, body, cut, meant, meantNumber, readRows, eaten}
-use Rattle.record.specs.Reading.{told, leaving, readAnswer, readLeft}
-use Rattle.record.specs.Reading as said
-use Rattle.record.proofs.Heads.{whole-long}
-use Rattle.record.proofs.Answering.{read-cut}
-use Rattle.record.proofs.Meaning.{Means, read-means}
+use Rattle.reading.specs.declared.Order.{Order}
+use Rattle.reading.specs.declared.Reading.{Reading}
+use Rattle.reading.specs.Reading.{told, leaving, readAnswer, readLeft}
+use Rattle.reading.specs.Reading as said
+use Rattle.reading.proofs.Heads.{whole-long}
+use Rattle.reading.proofs.Answering.{read-cut}
+use Rattle.reading.proofs.Meaning.{Means, read-means}
 use Rattle.line.specs.Line.{acceptedLine, refusedLine}
 use Rattle.line.specs.Written.{Written}
 use Rattle.packing.specs.Listed.{verdictOn, text, lineOf, passing, passed, ending, ends, widest, Listed, listed, cramped}

@@ -4,7 +4,7 @@ ghost use Prim.Native.Nat.{_+_, _≤_};
 ghost use lib.ListN.{length};
 ghost use Rattle.triangle.specs.Count.{largest, Counts};
 ghost use Rattle.packing.specs.Listed.{widest, Listed};
-use record::Reading;
+use reading::Reading;
 
 const BEATS: usize = 2 * triangle::LARGEST as usize;
 
@@ -23,7 +23,7 @@ fn list_with(counts: &[u64], src: &[u8], room: &mut [u8], out: &mut [u8]) -> Pri
     requires { ⌜ Counts (now counts) × (length (now room) ≡ largest + largest) × (widest ≤ length (now out)) ⌝ }
     ensures { λ r. ⌜ Listed (now (src .entry)) (now (out .entry)) (r .consumed) (r .bytes) (r .last) (now (out .exit)) ⌝ }
 {
-    let reading = record::read_by(counts, src, room);
+    let reading = reading::read_by(counts, src, room);
     match reading {
         Reading::Order(order) => {
             let n = (order.t + order.s) as usize;

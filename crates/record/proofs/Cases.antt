@@ -1,10 +1,9 @@
 -- The definitions of specs/ on small inputs, by computing them: the records of document 01 and their neighbours; for
--- each predicate and test one that fits and one refused for each part. Assumes nothing.
-use mathlib.Core.Bool.{true, false, true≢false}
+-- each test one that fits and one refused for each part. Assumes nothing.
+use mathlib.Core.Bool.{true, false}
 use mathlib.Core.List.{[], _∷_}
-use mathlib.Core.Path.{_≡_, refl, _∙_, sym}
+use mathlib.Core.Path.{_≡_, refl}
 use Prim.Native.Nat.{_+_}
-use native.Mathlib.Omega.{arith}
 use lib.ListN.{replicate}
 use Rattle.bounded.specs.Bounded.{every, firstFrom}
 use Rattle.refusal.specs.declared.Refusal.the-variants.{WrongSize, UnknownKind, CutShort, NoRoom, EmptyHand, WrongTakeUps, NoSuchNumber}
@@ -16,7 +15,6 @@ use Rattle.circle.specs.Step.{shift, found, has01, movesNext, next}
 use Rattle.circle.specs.Walk.{steps, changed}
 use Rattle.record.specs.Bytes.{lowFirst, valueOf, spell, tabulate, bytesFor, packed, beatAt, unpacked, unused, turned}
 use Rattle.record.specs.Record.{kindOf, isUnknown, numbered, beaten, unknown, payload, recordOf, long, kindIn, ups, downs, body, cut, misfit, spoiled, meant, meantNumber, readRows, eaten}
-use Rattle.record.specs.Reading.{leaving, readLeft, Whole}
 
 -- 12 and 1,020 as two bytes, and back
 low-12 : lowFirst 2 12 ≡ 12 ∷ 0 ∷ []
@@ -140,7 +138,7 @@ long-12 : long (12 ∷ 0 ∷ 1 ∷ 0 ∷ 3 ∷ 2 ∷ 2 ∷ 0 ∷ 0 ∷ 0 ∷ 0 �
 unfolding valueOf
 long-12 = refl
 
-long-5 : long (5 ∷ 0 ∷ 2 ∷ 0 ∷ 3 ∷ 2 ∷ 168 ∷ []) ≡ 5
+pub long-5 : long (5 ∷ 0 ∷ 2 ∷ 0 ∷ 3 ∷ 2 ∷ 168 ∷ []) ≡ 5
 unfolding valueOf
 long-5 = refl
 
@@ -181,7 +179,7 @@ cut-in-length : cut (0 ∷ []) ≡ true
 unfolding valueOf
 cut-in-length = refl
 
-cut-in-body : cut (5 ∷ 0 ∷ 2 ∷ 0 ∷ 3 ∷ 2 ∷ []) ≡ true
+pub cut-in-body : cut (5 ∷ 0 ∷ 2 ∷ 0 ∷ 3 ∷ 2 ∷ []) ≡ true
 unfolding valueOf
 cut-in-body = refl
 
@@ -232,39 +230,6 @@ meant-number-1 = refl
 meant-number-2 : meantNumber beaten 3 2 (168 ∷ []) ≡ 3
 unfolding tabulate N every firstFrom ones zeros isSchedule shift found has01 movesNext next steps changed
 meant-number-2 = refl
-
--- the schedule goes into the first places of what is lent, and nothing where reading is refused
-leaves-form : leaving beaten (5 ∷ 0 ∷ 2 ∷ 0 ∷ 3 ∷ 2 ∷ 168 ∷ []) Verdict.Accepted (7 ∷ 7 ∷ 7 ∷ 7 ∷ 7 ∷ 7 ∷ [])
-    ≡ 1 ∷ 0 ∷ 1 ∷ 0 ∷ 1 ∷ 7 ∷ []
-unfolding valueOf tabulate
-leaves-form = refl
-
-leaves-lent : leaving beaten (5 ∷ 0 ∷ 2 ∷ 0 ∷ 3 ∷ 2 ∷ 168 ∷ []) (Verdict.Refused NoRoom) (7 ∷ 7 ∷ []) ≡ 7 ∷ 7 ∷ []
-leaves-lent = refl
-
-read-leaves-form : readLeft (5 ∷ 0 ∷ 2 ∷ 0 ∷ 3 ∷ 2 ∷ 168 ∷ []) (replicate 64 7) ≡ 1 ∷ 0 ∷ 1 ∷ 0 ∷ 1 ∷ replicate 59 7
-unfolding valueOf tabulate firstFrom ones zeros
-read-leaves-form = refl
-
-read-leaves-lent : readLeft (5 ∷ 0 ∷ 2 ∷ 0 ∷ 3 ∷ 2 ∷ 168 ∷ []) (7 ∷ 7 ∷ []) ≡ 7 ∷ 7 ∷ []
-read-leaves-lent = refl
-
--- what is known before the kind is looked at, and an input refused for each part
-whole : Whole (5 ∷ 0 ∷ 2 ∷ 0 ∷ 3 ∷ 2 ∷ 168 ∷ []) 5 (replicate 64 7)
-unfolding valueOf
-whole = record { said = refl; here = refl; kind = omega arith; room = omega arith }
-
-not-said : Whole (5 ∷ 0 ∷ 2 ∷ 0 ∷ 3 ∷ 2 ∷ 168 ∷ []) 4 (replicate 64 7) → ⊥
-not-said p = omega (arith, p .said, long-5)
-
-not-here : Whole (5 ∷ 0 ∷ 2 ∷ 0 ∷ 3 ∷ 2 ∷ []) 5 (replicate 64 7) → ⊥
-not-here p = true≢false (sym cut-in-body ∙ p .here)
-
-no-kind : Whole (0 ∷ 0 ∷ []) 0 (replicate 64 7) → ⊥
-no-kind p = omega (arith, p .kind)
-
-too-little-room : Whole (5 ∷ 0 ∷ 2 ∷ 0 ∷ 3 ∷ 2 ∷ 168 ∷ []) 5 (replicate 63 7) → ⊥
-too-little-room p = omega (arith, p .room)
 
 -- the second record of document 01, and the same cut by a byte, with L = 0, and of kind 3
 taken : judge (readRows 64 (5 ∷ 0 ∷ 2 ∷ 0 ∷ 3 ∷ 2 ∷ 168 ∷ [])) ≡ Verdict.Accepted

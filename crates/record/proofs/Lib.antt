@@ -1,11 +1,4 @@
 pub mod Numerals
 pub mod Packing
-pub mod Verdicts
-pub mod Heads
-pub mod Answering
 pub mod Writing
-pub mod Unpacking
-pub mod Parts
-pub mod Meaning
-pub mod Theorems
 pub mod Cases

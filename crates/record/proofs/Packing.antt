@@ -5,6 +5,7 @@
 --     Packed, packed-start, packed-more, packed-all      the loop that packs
 --     turned-new, turned-old     the byte in hand
 --     Unpacked, unpacked-start, unpacked-more, unpacked-all     the loop that unpacks
+--     all-beats            the beats of a schedule are zeros and ones, read past their end as well
 -- Assumes nothing.
 use mathlib.Core.Bool.{Bool, cond}
 use mathlib.Core.List.{List, [], _∷_, _++_}
@@ -17,7 +18,7 @@ use native.Mathlib.Numerals.{add-one}
 use native.Mathlib.Omega.{arith}
 use borrow.Author.Tests.{eq-eqb, ne-eqb}
 use lib.Dec.{eqb}
-use lib.ListN.{length, getD, set, take, drop, length-append, length-set}
+use lib.ListN.{length, getD, set, take, drop, length-append, length-set, List·getD-eq-default}
 use lib.Seq.{getD-drop, getD-at, getD-append-seam, take-all, take-suc-set}
 use Rattle.record.specs.Bytes.{spell, tabulate, bytesFor, packed, beatAt, unpacked, unused, turned}
 
@@ -219,3 +220,7 @@ module _ {p : List ℕ} {n at byte : ℕ} {out : List ℕ} (f : (i : ℕ) → ge
   unpacked-all h =
       let all : at ≡ n = omega (arith, u .filled .long, u .filled .within) in
       (same-test byte (unused at p) unpacked-over ∙ ap (λ (j : ℕ). eqb (unused j p) 0) all, filled-all (u .filled) h)
+
+-- beats of which each is 0 or 1, read past their end as well
+pub all-beats : (b : List ℕ) → ((k : ℕ) → k < length b → getD b k 0 ≤ 1) → (k : ℕ) → getD b k 0 ≤ 1
+all-beats b f k = elim (decLt k (length b)) [ yes h ↦ f k h | no h ↦ omega (arith, List·getD-eq-default b 0 {n = k} (omega arith)) ]

@@ -15,7 +15,7 @@
 --     kindRows         and those of a kind: 11 (L wrong for it), 1, 2, then 7, or 11, 5, 6
 --     readRows         both [R20]
 --     eaten            the bytes consumed: 2 + L, but 0 after 9 and after 12 [R21]
---     What reading answers and leaves is in Reading.antt.
+--     What reading answers and leaves is in specs/Reading of the crate `reading`.
 use mathlib.Core.Bool.{Bool, true, false, not, cond, _||_}
 use mathlib.Core.List.{List, [], _∷_, _++_}
 use Prim.Native.Nat.{ℕ, zero, suc, _+_, _-_}

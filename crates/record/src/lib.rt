@@ -1,115 +1,14 @@
-// Order records, read and written: document 01, "Order record". The kinds are the cases of one match each
-// way. The contracts cite specs/Record and specs/Reading; proofs/Theorems says that what was written is read
-// back, and that what is read is written again byte for byte.
+// Order records, written: document 01, "Order record". The kinds are the cases of one match. The contracts cite
+// specs/Record, which says what a record means to its reader too; reading is the crate `reading`, and uses
+// little and pack.
 ghost use mathlib.Core.Path.{_≡_};
-ghost use Rattle.triangle.specs.Count.{Counts};
 ghost use Rattle.record.specs.Record.{writeAnswer, writeLeft};
-ghost use Rattle.record.specs.Reading.{readAnswer, readLeft};
-ghost use Rattle.record.specs.Reading as said;
 use refusal::Answer;
 use refusal::Refusal;
-use refusal::Verdict;
 
-mod little;
-mod pack;
-mod reads;
+pub mod little;
+pub mod pack;
 mod writes;
-
-// What a record says: the counts and the number of its form, and how many bytes it takes.
-pub struct Order {
-    pub t: u64,
-    pub s: u64,
-    pub number: u64,
-    pub consumed: u64,
-}
-
-// The answer of reading a record: what it says; or why it is refused, and how many bytes to pass over.
-pub enum Reading {
-    Order(Order),
-    Refused(Refusal, u64),
-}
-
-impl Reading {
-    pub fn verdict(self) -> Verdict
-        ensures { λ r. ⌜ r ≡ said.verdict self ⌝ }
-    {
-        match self {
-            Reading::Order(_) => Verdict::Accepted,
-            Reading::Refused(why, _) => Verdict::Refused(why),
-        }
-    }
-
-    pub fn t(self) -> u64
-        ensures { λ r. ⌜ r ≡ said.t self ⌝ }
-    {
-        match self {
-            Reading::Order(order) => order.t,
-            Reading::Refused(_, _) => 0,
-        }
-    }
-
-    pub fn s(self) -> u64
-        ensures { λ r. ⌜ r ≡ said.s self ⌝ }
-    {
-        match self {
-            Reading::Order(order) => order.s,
-            Reading::Refused(_, _) => 0,
-        }
-    }
-
-    pub fn number(self) -> u64
-        ensures { λ r. ⌜ r ≡ said.number self ⌝ }
-    {
-        match self {
-            Reading::Order(order) => order.number,
-            Reading::Refused(_, _) => 0,
-        }
-    }
-
-    // The bytes that the record takes, refused or not; 0 after 9 and after 12.
-    pub fn consumed(self) -> u64
-        ensures { λ r. ⌜ r ≡ said.consumed self ⌝ }
-    {
-        match self {
-            Reading::Order(order) => order.consumed,
-            Reading::Refused(_, bytes) => bytes,
-        }
-    }
-}
-// Reads the record that a slice starts with, and writes its schedule into the first t+s places of the lent
-// slice, leaving the others. Refuses 12, 9, 11 (L below 2), 10, 11 (L wrong for the kind), 1, 2, then 7, or 11
-// (kind 2's exact L and unused bits), 5, 6; a refusal changes nothing. [W2]
-pub fn read(src: &[u8], out: &mut [u8]) -> Reading
-    ensures { λ r. ⌜ r ≡ readAnswer (now (src .entry)) (now (out .entry)) ⌝ }
-    ensures { λ _. ⌜ now (out .exit) ≡ readLeft (now (src .entry)) (now (out .entry)) ⌝ }
-{
-    let none = [0u64; 1];
-    read_by(&none[..0], src, out)
-}
-
-// The same, by a list of counts that the caller keeps from call to call.
-pub fn read_by(counts: &[u64], src: &[u8], out: &mut [u8]) -> Reading
-    requires { ⌜ Counts (now counts) ⌝ }
-    ensures { λ r. ⌜ r ≡ readAnswer (now (src .entry)) (now (out .entry)) ⌝ }
-    ensures { λ _. ⌜ now (out .exit) ≡ readLeft (now (src .entry)) (now (out .entry)) ⌝ }
-{
-    if out.len() < reads::ROOM {
-        return Reading::Refused(Refusal::NoRoom, 0);
-    }
-    if reads::is_cut(src) {
-        return Reading::Refused(Refusal::CutShort, 0);
-    }
-    let long = reads::long(src);
-    if long < 2 {
-        return Reading::Refused(Refusal::WrongSize, 2 + long);
-    }
-    let kind = reads::kind(src);
-    match kind {
-        1 => reads::numbered(counts, src, long, out),
-        2 => reads::beaten(counts, src, long, out),
-        _ => Reading::Refused(Refusal::UnknownKind, 2 + long),
-    }
-}
 
 // Writes the record of a schedule into the first 2+L bytes lent, leaving the others, and answers 2+L. Refuses
 // 10, 1, 2, 3, 4, 5, 6, then 12; a refusal changes nothing.

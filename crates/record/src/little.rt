@@ -1,4 +1,5 @@
-// Numbers as bytes, the low one first. The contracts cite specs/Bytes.
+// Numbers as bytes, the low one first, for writing here and for the crate `reading`. The contracts cite
+// specs/Bytes.
 ghost use mathlib.Core.Path.{_≡_};
 ghost use Prim.Native.Nat.{_≤_};
 ghost use lib.ListN.{length};

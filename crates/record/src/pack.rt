@@ -1,4 +1,5 @@
-// Beats eight to a byte, the first in the highest bit. The contracts cite specs/Bytes.
+// Beats eight to a byte, the first in the highest bit, for writing here and for the crate `reading`. The
+// contracts cite specs/Bytes.
 ghost use mathlib.Core.Path.{_≡_};
 ghost use Prim.Native.Nat.{ℕ, _≤_, _<_, _*_};
 ghost use lib.Dec.{eqb};

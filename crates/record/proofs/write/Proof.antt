@@ -9,8 +9,7 @@ use Rattle.refusal.specs.Answer.{answer}
 use lib.ListN.{length}
 use Rattle.circle.proofs.Forms.{refused-so}
 use Rattle.record.specs.Record.{kindOf, isUnknown, recordOf, written, kindAnswer, kindLeft, writeAnswer, writeLeft}
-use Rattle.record.proofs.Answering.{kind-other}
-use Rattle.record.proofs.Writing.{write-unknown, write-kind}
+use Rattle.record.proofs.Writing.{write-unknown, write-kind, kind-other}
 use borrow.Author.Needs.{needs}
 use Rattle.record.proofs.write.Statement.{statement}
 use Rattle.record.proofs.write.Tie as tie

@@ -14,7 +14,7 @@ use Rattle.counts.specs.Counts.{Allowed}
 use Rattle.circle.proofs.Forms.{refused-so, accepted-so}
 use Rattle.record.specs.Bytes.{lowFirst, bytesFor, packed}
 use Rattle.record.specs.Record.{recordOf}
-use Rattle.record.proofs.Verdicts.{all-beats}
+use Rattle.record.proofs.Packing.{all-beats}
 use Rattle.record.proofs.Writing.{packed-size, record-made, beaten-size, write-refused, write-short, write-taken}
 use borrow.Author.Needs.{needs}
 use Rattle.record.proofs.writes.beaten.Statement.{statement}

@@ -14,8 +14,7 @@ use Rattle.number.specs.Number.{numberOf}
 use Rattle.record.specs.Bytes.{lowFirst}
 use Rattle.record.specs.Record.{recordOf}
 use Rattle.record.proofs.Numerals.{length-low}
-use Rattle.record.proofs.Verdicts.{answer-refused, answer-value}
-use Rattle.record.proofs.Writing.{record-made, numbered-size, write-refused, write-short, write-taken}
+use Rattle.record.proofs.Writing.{record-made, numbered-size, write-refused, write-short, write-taken, answer-refused, answer-value}
 use borrow.Author.Needs.{needs}
 use Rattle.record.proofs.writes.numbered.Statement.{statement}
 use Rattle.record.proofs.writes.numbered.Tie as tie

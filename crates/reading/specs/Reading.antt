@@ -1,0 +1,62 @@
+-- What reading a record answers and leaves, document 01, "Order record" and "Refusal numbers", by the definitions of `record`. Definitions only.
+--     told             an answer by the verdict: counts, number and 2 + L; or the refusal, and the bytes consumed
+--     reading          the answer to a record of a kind
+--     leaving          what the lent slice holds afterwards: the schedule, and behind it what was there; refused, what was there
+--     readAnswer, readLeft     the same of a slice that starts at a record
+--     Whole            what is known before the kind is looked at
+--     verdict, t, s, number, consumed     the parts of an answer: after a refusal every number but the bytes consumed is 0 [R22]
+use mathlib.Core.Bool.{false}
+use mathlib.Core.List.{List, _++_}
+use mathlib.Core.Path.{_≡_}
+use Prim.Native.Nat.{ℕ, _+_, _≤_}
+use lib.ListN.{length, drop}
+use Rattle.refusal.specs.declared.Verdict.{Verdict}
+use Rattle.refusal.specs.Order.{judge}
+use Rattle.triangle.specs.Count.{largest}
+use Rattle.circle.specs.Answers.{left}
+use Rattle.record.specs.Record.{Kind, long, kindIn, ups, downs, body, cut, meant, meantNumber, readRows, eaten}
+use Rattle.reading.specs.declared.Order.{Order}
+use Rattle.reading.specs.declared.Reading.{Reading}
+
+abbrev pub told : ℕ → ℕ → ℕ → ℕ → Verdict → Reading
+told t s n l Verdict.Accepted = Reading.Order (record { t = t; s = s; number = n; consumed = 2 + l })
+told t s n l (Verdict.Refused why) = Reading.Refused why (eaten why l)
+
+abbrev pub reading : Kind → List ℕ → Verdict → Reading
+reading k src v = told (ups src) (downs src) (meantNumber k (ups src) (downs src) (body src)) (long src) v
+
+abbrev pub leaving : Kind → List ℕ → Verdict → List ℕ → List ℕ
+leaving k src v out = left v (meant k (ups src) (downs src) (body src) ++ drop (ups src + downs src) out) out
+
+abbrev pub readAnswer : List ℕ → List ℕ → Reading
+readAnswer src out = reading (kindIn src) src (judge (readRows (length out) src))
+
+abbrev pub readLeft : List ℕ → List ℕ → List ℕ
+readLeft src out = leaving (kindIn src) src (judge (readRows (length out) src)) out
+
+-- what the reader knows when it comes to the kind: L, that the record is whole, and that there is room
+pub record Whole (src : List ℕ) (l : ℕ) (out : List ℕ) : Type 0 where
+  pub said : l ≡ long src
+  pub here : cut src ≡ false
+  pub kind : 2 ≤ l
+  pub room : largest + largest ≤ length out
+
+abbrev pub verdict : Reading → Verdict
+verdict (Reading.Order o) = Verdict.Accepted
+verdict (Reading.Refused why n) = Verdict.Refused why
+
+abbrev pub t : Reading → ℕ
+t (Reading.Order o) = o .t
+t (Reading.Refused why n) = 0
+
+abbrev pub s : Reading → ℕ
+s (Reading.Order o) = o .s
+s (Reading.Refused why n) = 0
+
+abbrev pub number : Reading → ℕ
+number (Reading.Order o) = o .number
+number (Reading.Refused why n) = 0
+
+abbrev pub consumed : Reading → ℕ
+consumed (Reading.Order o) = o .consumed
+consumed (Reading.Refused why n) = n

@@ -1,0 +1,170 @@
+// Reading a record of each kind, whose length and kind are known. The contracts cite specs/Reading, and
+// specs/Bytes and specs/Record of `record`; each requires a whole record and room for the longest schedule.
+ghost use mathlib.Core.Path.{_≡_};
+ghost use mathlib.Core.List.{_++_};
+ghost use Prim.Native.Nat.{_+_, _≤_, _<_};
+ghost use lib.ListN.{length, take, drop};
+ghost use Rattle.refusal.specs.Order.{judge};
+ghost use Rattle.triangle.specs.Count.{largest, Counts};
+ghost use Rattle.counts.specs.Counts.{Allowed, countRows};
+ghost use Rattle.circle.specs.Answers.{left};
+ghost use Rattle.number.specs.Number.{numberOf, formOf};
+ghost use Rattle.number.specs.Answers.{numberRows};
+ghost use Rattle.record.specs.Bytes.{bytesFor, valueOf, unpacked};
+ghost use Rattle.record.specs.Bytes as beats;
+ghost use Rattle.record.specs.Record.{longest, cut, bodyRows, kindRows};
+ghost use Rattle.record.specs.Record as part;
+ghost use Rattle.reading.specs.Reading.{told, reading, leaving, Whole};
+use crate::Order;
+use crate::Reading;
+use record::little;
+use record::pack;
+use refusal::Answer;
+use refusal::Refusal;
+use refusal::Verdict;
+
+// The places that a slice for schedules must have.
+pub const ROOM: usize = 2 * triangle::LARGEST as usize;
+
+// The most bytes that a record has behind its length.
+const LONGEST: u64 = 1020;
+
+// L, of a slice that has its two bytes.
+pub fn long(src: &[u8]) -> u64
+    requires { ⌜ 2 ≤ length (now src) ⌝ }
+    ensures { λ r. ⌜ r ≡ part.long (now (src .entry)) ⌝ }
+{
+    little::value(&src[..2])
+}
+
+// Whether a slice has no whole record, or its L is above the longest.
+pub fn is_cut(src: &[u8]) -> bool
+    ensures { λ r. ⌜ r ≡ cut (now (src .entry)) ⌝ }
+{
+    if src.len() < 2 {
+        return true;
+    }
+    let long = long(src);
+    if LONGEST < long {
+        return true;
+    }
+    (src.len() as u64) < 2 + long
+}
+
+// The kind, of a slice that has its two bytes.
+pub fn kind(src: &[u8]) -> u64
+    requires { ⌜ 4 ≤ length (now src) ⌝ }
+    ensures { λ r. ⌜ r ≡ valueOf (take 2 (drop 2 (now (src .entry)))) ⌝ }
+{
+    little::value(&src[2..4])
+}
+
+fn wide(byte: u8) -> u64
+    ensures { λ r. ⌜ r ≡ byte ⌝ }
+{
+    byte as u64
+}
+
+// The form of a number, where its counts are allowed and have it.
+fn formed(counts: &[u64], t: u64, s: u64, number: u64, long: u64, out: &mut [u8]) -> Reading
+    requires { ⌜ Counts (now counts) × (long ≤ longest) × (largest + largest ≤ length (now out)) ⌝ }
+    ensures { λ r. ⌜ r ≡ told t s number long (judge (numberRows t s number)) ⌝ }
+    ensures { λ _. ⌜ now (out .exit) ≡ left (judge (numberRows t s number)) (formOf t s number ++ drop (t + s) (now (out .entry))) (now (out .entry)) ⌝ }
+{
+    let allowed = counts::allowed(t, s);
+    match allowed {
+        Verdict::Refused(why) => Reading::Refused(why, 2 + long),
+        Verdict::Accepted => {
+            let n = (t + s) as usize;
+            let verdict = number::form_by(counts, t, s, number, &mut out[..n]);
+            match verdict {
+                Verdict::Refused(why) => Reading::Refused(why, 2 + long),
+                Verdict::Accepted => Reading::Order(Order {
+                    t,
+                    s,
+                    number,
+                    consumed: 2 + long,
+                }),
+            }
+        }
+    }
+}
+
+// A record of kind 1.
+pub fn numbered(counts: &[u64], src: &[u8], long: u64, out: &mut [u8]) -> Reading
+    requires { ⌜ Counts (now counts) × Whole (now src) long (now out) ⌝ }
+    ensures { λ r. ⌜ r ≡ reading part.numbered (now (src .entry)) (judge (kindRows part.numbered (now (src .entry)))) ⌝ }
+    ensures { λ _. ⌜ now (out .exit) ≡ leaving part.numbered (now (src .entry)) (judge (kindRows part.numbered (now (src .entry)))) (now (out .entry)) ⌝ }
+{
+    if long != 12 {
+        return Reading::Refused(Refusal::WrongSize, 2 + long);
+    }
+    let number = little::value(&src[6..14]);
+    formed(counts, wide(src[4]), wide(src[5]), number, long, out)
+}
+
+// The beats that are packed, where no unused bit is set and they are a schedule; the room takes them until
+// that is known.
+fn spread(
+    counts: &[u64],
+    t: u64,
+    s: u64,
+    long: u64,
+    packed: &[u8],
+    room: &mut [u8],
+    out: &mut [u8],
+) -> Reading
+    requires { ⌜ Counts (now counts) × Allowed t s × (long ≡ 4 + bytesFor (t + s)) × (length (now packed) ≡ bytesFor (t + s)) × (length (now room) ≡ t + s) × (length (now out) ≡ t + s) ⌝ }
+    ensures { λ r. ⌜ r ≡ told t s (numberOf t s (unpacked (t + s) (now (packed .entry)))) long (judge (bodyRows part.beaten t s long (now (packed .entry)))) ⌝ }
+    ensures { λ _. ⌜ now (out .exit) ≡ left (judge (bodyRows part.beaten t s long (now (packed .entry)))) (unpacked (t + s) (now (packed .entry))) (now (out .entry)) ⌝ }
+{
+    if !pack::unpack(packed, room) {
+        return Reading::Refused(Refusal::WrongSize, 2 + long);
+    }
+    let numbered = number::number_by(counts, t, s, room);
+    match numbered {
+        Answer::Refused(why) => Reading::Refused(why, 2 + long),
+        Answer::Value(number) => {
+            bytes::copy(room, out);
+            Reading::Order(Order {
+                t,
+                s,
+                number,
+                consumed: 2 + long,
+            })
+        }
+    }
+}
+
+// The packed beats of a form, where its counts are allowed and its L is what they need.
+fn unpacked(counts: &[u64], t: u64, s: u64, long: u64, packed: &[u8], out: &mut [u8]) -> Reading
+    requires { ⌜ Counts (now counts) × (long ≤ longest) × (length (now packed) + 4 ≡ long) × (largest + largest ≤ length (now out)) ⌝ }
+    ensures { λ r. ⌜ r ≡ told t s (numberOf t s (beats.unpacked (t + s) (now (packed .entry)))) long (judge (countRows t s ++ bodyRows part.beaten t s long (now (packed .entry)))) ⌝ }
+    ensures { λ _. ⌜ now (out .exit) ≡ left (judge (countRows t s ++ bodyRows part.beaten t s long (now (packed .entry)))) (beats.unpacked (t + s) (now (packed .entry)) ++ drop (t + s) (now (out .entry))) (now (out .entry)) ⌝ }
+{
+    let allowed = counts::allowed(t, s);
+    match allowed {
+        Verdict::Refused(why) => Reading::Refused(why, 2 + long),
+        Verdict::Accepted => {
+            let n = (t + s) as usize;
+            if packed.len() != pack::bytes_for(n) {
+                return Reading::Refused(Refusal::WrongSize, 2 + long);
+            }
+            let mut room = [0u8; ROOM];
+            spread(counts, t, s, long, packed, &mut room[..n], &mut out[..n])
+        }
+    }
+}
+
+// A record of kind 2.
+pub fn beaten(counts: &[u64], src: &[u8], long: u64, out: &mut [u8]) -> Reading
+    requires { ⌜ Counts (now counts) × Whole (now src) long (now out) ⌝ }
+    ensures { λ r. ⌜ r ≡ reading part.beaten (now (src .entry)) (judge (kindRows part.beaten (now (src .entry)))) ⌝ }
+    ensures { λ _. ⌜ now (out .exit) ≡ leaving part.beaten (now (src .entry)) (judge (kindRows part.beaten (now (src .entry)))) (now (out .entry)) ⌝ }
+{
+    if long < 4 {
+        return Reading::Refused(Refusal::WrongSize, 2 + long);
+    }
+    let end = 2 + long as usize;
+    unpacked(counts, wide(src[4]), wide(src[5]), long, &src[6..end], out)
+}
