@@ -15,7 +15,7 @@ fn print_form(t: u64, s: u64, number: u64, out: &mut [u8]) {
     print_input(t, s, number);
     show::number(out.len() as u64);
     show::text(b": ");
-    show::verdict(number::form(t, s, number, out));
+    show::verdict(form::form(t, s, number, out));
     show::text(b" ");
     show::beats(out);
     show::text(b"\n");
@@ -28,7 +28,7 @@ fn print_sheet(t: u64, s: u64, number: u64, sheet: &mut [u8], column: u64) {
     show::text(b" ");
     show::number(sheet.len() as u64);
     show::text(b": ");
-    show::verdict(number::form_on_sheet(t, s, number, sheet, column));
+    show::verdict(form::form_on_sheet(t, s, number, sheet, column));
     show::text(b" ");
     show::beats(sheet);
     show::text(b"\n");

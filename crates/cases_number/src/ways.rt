@@ -3,7 +3,7 @@
 
 // Writes the form of a number, and says whether it has that number.
 fn returns(t: u64, s: u64, number: u64, beats: &mut [u8]) -> bool {
-    if number::form(t, s, number, beats).refusal() != 0 {
+    if form::form(t, s, number, beats).refusal() != 0 {
         return false;
     }
     let again = number::number(t, s, beats);
@@ -86,7 +86,7 @@ fn print_ends(t: u64, s: u64, beats: &mut [u8]) {
     show::text(b" ");
     show::number(forms - 1);
     show::text(b" ");
-    show::number(number::form(t, s, forms, beats).refusal());
+    show::number(form::form(t, s, forms, beats).refusal());
     print_chosen(t, s, forms, beats);
 }
 

@@ -5,7 +5,7 @@ use crate::folds::Tally;
 
 // The form of a number, in each kind.
 fn ask(tally: Tally, t: u64, s: u64, x: u64, beats: &mut [u8]) -> Tally {
-    number::form(t, s, x, beats);
+    form::form(t, s, x, beats);
     let one = folds::both(tally, 1, t, s, x, beats);
     folds::both(one, 2, t, s, x, beats)
 }

@@ -55,7 +55,7 @@ fn print_record(kind: u64, t: u64, s: u64, x: u64, room: usize) {
 }
 
 fn print_written(kind: u64, t: u64, s: u64, x: u64, beats: &mut [u8], bytes: &mut [u8]) {
-    number::form(t, s, x, beats);
+    form::form(t, s, x, beats);
     record::write(kind, t, s, beats, bytes);
     print_changes(bytes);
 }

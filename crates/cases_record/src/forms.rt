@@ -25,7 +25,7 @@ fn print_kinds(t: u64, s: u64, beats: &[u8]) {
 }
 
 fn print_form_in(t: u64, s: u64, x: u64, beats: &mut [u8]) {
-    number::form(t, s, x, beats);
+    form::form(t, s, x, beats);
     print_kinds(t, s, beats);
 }
 

@@ -107,7 +107,7 @@ fn print_scattered(forms: u64) {
     let mut seed: u64 = 0;
     for _ in 0..10u64 {
         seed = std::num::wrapping_add_u64(seed, 11400714819323198485);
-        number::form(32, 32, seed % forms, &mut beats);
+        form::form(32, 32, seed % forms, &mut beats);
         print_form(&beats);
     }
 }

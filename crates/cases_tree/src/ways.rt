@@ -12,7 +12,7 @@ pub fn example() {
 fn print_each(n: u64, beats: &mut [u8]) {
     let forms = counts::count(n, n).value();
     for x in 0..forms {
-        number::form(n, n, x, beats);
+        form::form(n, n, x, beats);
         asks::both(n, beats);
     }
 }
@@ -22,7 +22,7 @@ fn print_digest(n: u64, beats: &mut [u8]) {
     let forms = counts::count(n, n).value();
     let mut tally = folds::none();
     for x in 0..forms {
-        number::form(n, n, x, beats);
+        form::form(n, n, x, beats);
         tally = folds::both(tally, n, beats);
     }
     show::text(b"trees ");

@@ -93,7 +93,7 @@ pub extern "C" fn gv_form(t: u64, s: u64, number: u64, out: &mut [u8]) -> u64
     ensures { λ r. ⌜ r ≡ refusal (formVerdict t s number (now (out .entry))) ⌝ }
     ensures { λ _. ⌜ now (out .exit) ≡ formLeft t s number (now (out .entry)) ⌝ }
 {
-    number::form(t, s, number, out).refusal()
+    form::form(t, s, number, out).refusal()
 }
 
 // Takes the lent schedule one step on, and answers 0 or the refusal, 1 to 6. A refusal changes nothing.

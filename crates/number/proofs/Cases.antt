@@ -18,7 +18,7 @@ use Rattle.circle.specs.Step.{shift, found, has01, movesNext, next}
 use Rattle.circle.specs.Walk.{steps, changed}
 use Rattle.number.specs.Number.{Fewest, same, numberOf, formOf}
 use Rattle.number.specs.Groups.{upTo, lastGroup, ending, S}
-use Rattle.number.specs.Ranking.{isSized, goesOn, Ranks, placeOf, floorOf}
+use Rattle.number.specs.Ranking.{isSized, goesOn, Ranks}
 use Rattle.number.specs.Answers.{numberRows, onSheet}
 use Rattle.number.proofs.Theorems.{number-fewest, S-lists}
 
@@ -148,23 +148,6 @@ ranks-1001 a p = schedule-1001 p
 
 ranks-not-1001 : (n : ℕ) → Ranks 2 2 (1 ∷ 0 ∷ 0 ∷ 1 ∷ []) true n → ⊥
 ranks-not-1001 n p = schedule-1001 (p .1)
-
--- places in a list S of five forms, and floors
-place-0 : placeOf 5 0 ≡ 5
-unfolding placeOf
-place-0 = refl
-
-place-2 : placeOf 5 2 ≡ 2
-unfolding placeOf
-place-2 = refl
-
-floor-3-2 : floorOf 3 2 ≡ 3
-unfolding floorOf N
-floor-3-2 = refl
-
-floor-3-0 : floorOf 3 0 ≡ 0
-unfolding floorOf
-floor-3-0 = refl
 
 -- the last number of 3, 2, and one past it
 taken-4 : judge (numberRows 3 2 4) ≡ Verdict.Accepted

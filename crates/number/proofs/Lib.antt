@@ -4,8 +4,6 @@ pub mod InGroups
 pub mod Theorems
 pub mod Rising
 pub mod Counting
-pub mod Filling
-pub mod Writing
 pub mod Verdicts
 pub mod Agreement
 pub mod Cases

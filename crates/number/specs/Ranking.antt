@@ -1,16 +1,14 @@
--- Parts of the ways between a form and its number, for the contracts of private functions. Nothing here has to be believed. Definitions only.
+-- Parts of the way from a form to its number, for the contracts of private functions. Nothing here has to be believed. Definitions only.
 --     isSized t s b            the counts are allowed, and the beats are as many as they say
 --     goesOn t p q beat        the beat may stand behind p ones and q zeros of a schedule of t ones
 --     Ranks t s b whole n      whole exactly if b is a schedule of allowed counts, and then n is its number
---     placeOf m v              the place of number v in a list S of m forms, from 1 on: number 0 closes the list
---     floorOf p q              the forms of p, q at places before it end in a 0: N(p, q−1), and 0 for q = 0
 use mathlib.Core.Bool.{Bool, true, false, _&&_}
 use mathlib.Core.List.{List}
 use mathlib.Core.Path.{_≡_}
-use Prim.Native.Nat.{ℕ, zero, suc, _+_}
+use Prim.Native.Nat.{ℕ, _+_}
 use lib.Dec.{eqb, leb, ltb}
 use lib.ListN.{length}
-use Rattle.triangle.specs.Count.{N, largest}
+use Rattle.triangle.specs.Count.{largest}
 use Rattle.counts.specs.Counts.{Allowed}
 use Rattle.schedule.specs.Schedule.{Schedule}
 use Rattle.number.specs.Number.{numberOf}
@@ -24,11 +22,3 @@ goesOn t p q beat = leb beat 1 && leb (p + beat) t && ltb q (p + beat)
 abbrev pub Ranks : ℕ → ℕ → List ℕ → Bool → ℕ → Type 0
 Ranks t s b true n = Allowed t s × Schedule t s b × (n ≡ numberOf t s b)
 Ranks t s b false n = Allowed t s → Schedule t s b → ⊥
-
-unfoldable pub placeOf : ℕ → ℕ → ℕ
-placeOf m zero = m
-placeOf m (suc v) = suc v
-
-unfoldable pub floorOf : ℕ → ℕ → ℕ
-floorOf p zero = 0
-floorOf p (suc q) = N p q

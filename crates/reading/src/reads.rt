@@ -76,7 +76,7 @@ fn formed(counts: &[u64], t: u64, s: u64, number: u64, long: u64, out: &mut [u8]
         Verdict::Refused(why) => Reading::Refused(why, 2 + long),
         Verdict::Accepted => {
             let n = (t + s) as usize;
-            let verdict = number::form_by(counts, t, s, number, &mut out[..n]);
+            let verdict = form::form_by(counts, t, s, number, &mut out[..n]);
             match verdict {
                 Verdict::Refused(why) => Reading::Refused(why, 2 + long),
                 Verdict::Accepted => Reading::Order(Order {

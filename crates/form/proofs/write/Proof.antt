@@ -1,4 +1,4 @@
--- `number::write` meets its contract: each turn writes one beat more of the form, from the last on, until what is left is ones and then
+-- `form::write` meets its contract: each turn writes one beat more of the form, from the last on, until what is left is ones and then
 -- zeros. Assumes nothing.
 use mathlib.Core.Bool.{not}
 use mathlib.Core.Path.{_≡_, refl, _∙_, ap}
@@ -9,9 +9,9 @@ use mir.Val.{boolByte}
 use lib.Dec.{ltb}
 use lib.ListN.{length, length-set}
 use Rattle.triangle.specs.Count.{N}
-use Rattle.number.proofs.Writing.{Behind, behind-none, behind-some, floor-some, floor-within, next-within, less-within, one-within, behind-turn, behind-all}
-use Rattle.number.proofs.write.Statement.{statement}
-use Rattle.number.proofs.write.Tie as tie
+use Rattle.form.proofs.Writing.{Behind, behind-none, behind-some, floor-some, floor-within, next-within, less-within, one-within, behind-turn, behind-all}
+use Rattle.form.proofs.write.Statement.{statement}
+use Rattle.form.proofs.write.Tie as tie
 
 abbrev Inv-loop : tie.InvT-loop
 Inv-loop counts t s number out₀ at₀ p₀ all₀ low₀ k₀ out at p all low k = (length out ≡ length out₀) × Behind t s number out at p k all low

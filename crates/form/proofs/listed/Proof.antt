@@ -1,7 +1,7 @@
--- `number::listed` meets its contract. Assumes nothing.
-use Rattle.number.proofs.Writing.{place-zero, place-more}
-use Rattle.number.proofs.listed.Statement.{statement}
-use Rattle.number.proofs.listed.Tie as tie
+-- `form::listed` meets its contract. Assumes nothing.
+use Rattle.form.proofs.Writing.{place-zero, place-more}
+use Rattle.form.proofs.listed.Statement.{statement}
+use Rattle.form.proofs.listed.Tie as tie
 
 returns : tie.Need-returns
 returns c = place-zero (c .before .args .all) (c .before .args .number) (c .if1 .taken)

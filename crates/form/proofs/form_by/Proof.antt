@@ -1,4 +1,4 @@
--- `number::form_by` meets its contract: a refusal is that of the number, or 3, and leaves what was lent; else the form is written.
+-- `form::form_by` meets its contract: a refusal is that of the number, or 3, and leaves what was lent; else the form is written.
 -- Assumes nothing.
 use mathlib.Core.List.{List}
 use mathlib.Core.Path.{_≡_, _∙_, sym}
@@ -8,11 +8,11 @@ use borrow.Author.Needs.{needs}
 use Rattle.refusal.specs.declared.Verdict.{Verdict}
 use Rattle.refusal.specs.Order.{judge}
 use Rattle.triangle.specs.Count.{N, largest}
 use Rattle.number.specs.Answers.{numberRows}
 use Rattle.number.specs.Number.{formOf}
 use Rattle.number.proofs.Verdicts.{number-allowed, form-refused, form-long, form-taken, refused-left, accepted-left}
-use Rattle.number.proofs.form_by.Statement.{statement}
-use Rattle.number.proofs.form_by.Tie as tie
+use Rattle.form.proofs.form_by.Statement.{statement}
+use Rattle.form.proofs.form_by.Tie as tie
 
 numbered-requires : tie.Need-numbered-requires
 numbered-requires c κs = search needs

@@ -1,4 +1,4 @@
--- `number::numbered` meets its contract: the counts' refusals first, then 7. Assumes nothing.
+-- `form::numbered` meets its contract: the counts' refusals first, then 7. Assumes nothing.
 use mathlib.Core.Path.{_≡_, _∙_, sym}
 use native.Mathlib.Omega.{arith}
 use borrow.Author.Needs.{needs}
@@ -6,9 +6,9 @@ use Rattle.refusal.specs.declared.Verdict.{Verdict}
 use Rattle.refusal.specs.Order.{judge}
 use Rattle.counts.specs.Counts.{countRows}
 use Rattle.counts.proofs.Sizes.{counts-allowed}
 use Rattle.number.proofs.Verdicts.{number-refused, number-beyond, number-taken}
-use Rattle.number.proofs.numbered.Statement.{statement}
-use Rattle.number.proofs.numbered.Tie as tie
+use Rattle.form.proofs.numbered.Statement.{statement}
+use Rattle.form.proofs.numbered.Tie as tie
 
 allowed-requires : tie.Need-allowed-requires
 allowed-requires c κs = search needs

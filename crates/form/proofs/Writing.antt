@@ -30,10 +30,10 @@ use Rattle.circle.proofs.Shape.{ups, downs, shape-join, top-shape, turn-ups, tu
 use Rattle.circle.proofs.Rank.{raise, rank, rank-below}
 use Rattle.circle.proofs.Advance.{flat, flat-ones, flat-zeros, flat-rank}
 use Rattle.circle.proofs.Circle.{same-rank, top-schedule}
 use Rattle.number.specs.Number.{formOf}
-use Rattle.number.specs.Ranking.{floorOf, placeOf}
+use Rattle.form.specs.Place.{placeOf, floorOf}
 use Rattle.number.proofs.Numbers.{form-schedule, form-rank}
-use Rattle.number.proofs.Filling.{written-at}
+use Rattle.form.proofs.Filling.{written-at}
 
 pub place-zero : (m v : ℕ) → v ≡ 0 → m ≡ placeOf m v
 unfolding placeOf

@@ -1,9 +1,9 @@
--- `number::front` meets its contract: each turn writes one beat more before the place, from the last on. Assumes nothing.
+-- `form::front` meets its contract: each turn writes one beat more before the place, from the last on. Assumes nothing.
 use native.Mathlib.Omega.{arith}
 use borrow.Author.Needs.{needs}
-use Rattle.number.proofs.Filling.{Fronted, front-none, front-turn, front-all}
-use Rattle.number.proofs.front.Statement.{statement}
-use Rattle.number.proofs.front.Tie as tie
+use Rattle.form.proofs.Filling.{Fronted, front-none, front-turn, front-all}
+use Rattle.form.proofs.front.Statement.{statement}
+use Rattle.form.proofs.front.Tie as tie
 
 abbrev Inv-loop : tie.InvT-loop
 Inv-loop p until out₀ at₀ out at = Fronted out₀ p until out at

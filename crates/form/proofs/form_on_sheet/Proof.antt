@@ -1,4 +1,4 @@
--- `number::form_on_sheet` meets its contract: a refusal is that of the number, or 12, and leaves the sheet; else the form stands on it
+-- `form::form_on_sheet` meets its contract: a refusal is that of the number, or 12, and leaves the sheet; else the form stands on it
 -- from the column on. Assumes nothing.
 use mathlib.Core.List.{List}
 use mathlib.Core.Path.{_≡_, _∙_, ap, sym}
@@ -10,12 +10,12 @@ use Rattle.refusal.specs.declared.Refusal.the-variants.{NoRoom}
 use Rattle.refusal.specs.declared.Verdict.{Verdict}
 use Rattle.refusal.specs.Order.{judge}
 use Rattle.triangle.specs.Count.{N, largest}
 use Rattle.number.specs.Answers.{numberRows, sheetRows, onSheet}
 use Rattle.number.specs.Number.{formOf}
 use Rattle.number.proofs.Numbers.{form-schedule}
 use Rattle.number.proofs.Verdicts.{number-allowed, sheet-refused, sheet-short, sheet-taken, refused-left, accepted-left, on-part}
-use Rattle.number.proofs.form_on_sheet.Statement.{statement}
-use Rattle.number.proofs.form_on_sheet.Tie as tie
+use Rattle.form.proofs.form_on_sheet.Statement.{statement}
+use Rattle.form.proofs.form_on_sheet.Tie as tie
 
 array-share-prefix-none : tie.Need-array-share-prefix-none
 array-share-prefix-none c = search needs

@@ -1,10 +1,10 @@
--- `number::floor` meets its contract. Assumes nothing.
+-- `form::floor` meets its contract. Assumes nothing.
 use mathlib.Core.Path.{_∙_}
 use native.Mathlib.Omega.{arith}
 use borrow.Author.Needs.{needs}
-use Rattle.number.proofs.Writing.{floor-zero, floor-more}
-use Rattle.number.proofs.floor.Statement.{statement}
-use Rattle.number.proofs.floor.Tie as tie
+use Rattle.form.proofs.Writing.{floor-zero, floor-more}
+use Rattle.form.proofs.floor.Statement.{statement}
+use Rattle.form.proofs.floor.Tie as tie
 
 sub-look : tie.Need-sub-look
 sub-look c = search needs
