@@ -1,18 +1,20 @@
 -- The circle and the work of its steps: the letter, demand 3, and document 01, "The step". Each once over t and s.
 --     next-form             the next form of a schedule of t, s is a schedule of t, s [O1a]
+--     no-01-top             with no 0 followed by 1 a schedule is t ones and then s zeros [S3]
 --     OneWay                exactly one number of steps from 1 to N(t, s) leads from a to b
 --     circle                for every two forms there is that one number of steps [D3b]
 --     circle-start-last     from a form to itself it is N(t, s): the start is met last [D3c]
 --     dip-means, means-dip  a dip sets down at its second beat and is not the form after t ones and s zeros
 --     step-changes          from two ones and one zero on, a step changes 2 beats, and 4 exactly if it arrives at a dip [D3d] [O1b]
---     one-form-changes      with one ones or no zeros there is one form, and a step changes none [O1c]
+--     one-form              with at most one 1 or no zeros there is one form, and
+--     one-form-changes      a step changes none [O1c]
 --     stretch-changes       k steps change 2k beats and two more for each dip [D3e]
 --     round-changes         a round changes 2·N(t, s) + 2·N(t−1, s−1) − 2 beats [D3f]
 -- Assumes nothing.
-use mathlib.Core.Bool.{Bool, true, false, cond, and-eq-true-iff}
-use mathlib.Core.List.{List}
+use mathlib.Core.Bool.{Bool, true, false, cond, false≢true, and-eq-true-iff}
+use mathlib.Core.List.{List, []}
 use mathlib.Core.Logic.{_⊎_, inl, inr}
-use mathlib.Core.Path.{_≡_, refl, _∙_, ap, sym}
+use mathlib.Core.Path.{_≡_, refl, _∙_, ap, ap₂, sym}
 use Prim.Native.Nat.{ℕ, zero, suc, _+_, _-_, _*_, _≤_}
 use native.Mathlib.Numerals.{sub-one}
 use native.Mathlib.Omega.{arith}
@@ -20,11 +22,13 @@ use borrow.Author.Tests.{eqb-true, ltb-true}
 use lib.Dec.{eqb, ltb}
 use lib.ListN.{length, getD}
 use Rattle.triangle.specs.Count.{N}
-use Rattle.triangle.proofs.Count.{N-pos}
-use Rattle.schedule.specs.Schedule.{Schedule}
-use Rattle.schedule.proofs.Hand.{schedule-le}
-use Rattle.circle.specs.Step.{next, top}
+use Rattle.triangle.proofs.Count.{N-zero, N-over, N-add, N-pos}
+use Rattle.schedule.specs.Schedule.{Schedule, ones}
+use Rattle.schedule.proofs.Hand.{schedule-le, schedule-plays}
+use Rattle.circle.specs.Step.{has01, next, top}
 use Rattle.circle.specs.Walk.{steps, changed, worked, isDip, dips}
+use Rattle.circle.proofs.Shape.{ups, downs, View, none, some, view, shape-ones, shape-length, top-shape}
+use Rattle.circle.proofs.Moves.{has01-some}
 use Rattle.circle.proofs.Circle.{next-schedule, round, reaches, once}
 use Rattle.circle.proofs.Work.{changed-self}
 use Rattle.circle.proofs.Dips.{is-dip, next-changed, worked-dips, idle-changed}
@@ -32,6 +36,17 @@ use Rattle.circle.proofs.Round.{round-worked}
 
 pub next-form : {t s : ℕ} {b : List ℕ} → Schedule t s b → Schedule t s (next b)
 next-form = next-schedule
+
+pub no-01-top : {t s : ℕ} {b : List ℕ} → Schedule t s b → has01 b ≡ false → b ≡ top t s
+unfolding ones
+no-01-top {t} {s} {b} p e = by (view 0 b (schedule-plays p)) p e
+  where
+    by : {c : List ℕ} → View c → Schedule t s c → has01 c ≡ false → c ≡ top t s
+    by (none u d) q f =
+        let up : u ≡ t = omega (arith, shape-ones u d [], q .taken) in
+        let down : d ≡ s = omega (arith, shape-length u d [], q .size, up) in
+        ap₂ (λ (i j : ℕ). ups i (downs j [])) up down ∙ sym (top-shape t s)
+    by (some u d z) q f = absurd (false≢true (sym f ∙ has01-some u d z))
 
 pub record OneWay (t s : ℕ) (a b : List ℕ) : Type 0 where
   pub count : ℕ
@@ -84,6 +99,22 @@ module _ {t s : ℕ} (two : 2 ≤ t) (one : 1 ≤ s) where
         by zero s h k q = absurd (omega arith)
         by (suc t) zero h k q = absurd (omega arith)
         by (suc t) (suc s) h k q = rw (sub-one (suc t), sub-one (suc s)) (round-worked t s q h)
+
+N-one : (t s : ℕ) → s ≤ t → (t ≤ 1) ⊎ (s ≡ 0) → N t s ≡ 1
+N-one t zero h k = N-zero t
+N-one zero (suc s) h k = absurd (omega arith)
+N-one (suc zero) (suc zero) h k = N-add 0 0 (omega arith) ∙ ap₂ (λ (x y : ℕ). x + y) (N-over 0 1 (omega arith)) (N-zero 1)
+N-one (suc zero) (suc (suc s)) h k = absurd (omega arith)
+N-one (suc (suc t)) (suc s) h (inl few) = absurd (omega arith)
+N-one (suc (suc t)) (suc s) h (inr empty) = absurd (omega arith)
+
+pub one-form : {t s : ℕ} {a b : List ℕ} → Schedule t s a → Schedule t s b → (t ≤ 1) ⊎ (s ≡ 0) → a ≡ b
+one-form {t} {s} {a} p q k =
+    let one = N-one t s (schedule-le p) k in
+    let there = circle p q in
+    let back = circle p p in
+    let same : back .count ≡ there .count = omega (arith, one, there .from, there .to, back .from, back .to) in
+    sym (back .leads) ∙ ap (λ (n : ℕ). steps n a) same ∙ there .leads
 
 pub one-form-changes : {t s : ℕ} {b : List ℕ} → Schedule t s b → (t ≤ 1) ⊎ (s ≡ 0) → changed b (next b) ≡ 0
 one-form-changes = idle-changed

@@ -1,10 +1,12 @@
 -- What a count of forms answers, document 01, "How many forms" and "Refusal numbers". One of the three holds of every t and s [R3].
+--     beats-at-most-64    allowed counts have at most 64 beats [A5]
 --     count-forms         allowed counts: N(t, s)
 --     count-too-many      refusal 1 for t above the largest count [D1b]
 --     count-more-down     refusal 2 for an allowed t with s above it
 -- Assumes nothing.
 use mathlib.Core.Path.{_≡_, ap}
-use Prim.Native.Nat.{ℕ, _≤_, _<_}
+use Prim.Native.Nat.{ℕ, _+_, _≤_, _<_}
+use native.Mathlib.Omega.{arith}
 use Rattle.refusal.specs.declared.Answer.{Answer}
 use Rattle.refusal.specs.declared.Refusal.the-variants.{TooManyTasks, MoreDownThanUp}
 use Rattle.refusal.specs.declared.Verdict.{Verdict}
@@ -14,6 +16,9 @@ use Rattle.counts.specs.Counts.{Allowed, counting}
 use Rattle.counts.proofs.Sizes.{too-many, more-down, allowed-counts}
 
 module _ (t s : ℕ) where
+  pub beats-at-most-64 : Allowed t s → t + s ≤ 64
+  beats-at-most-64 a = omega (arith, a)
+
   pub count-forms : Allowed t s → counting t s ≡ Answer.Value (N t s)
   count-forms a = ap (λ (v : Verdict). answer v (N t s)) (allowed-counts t s a)
 

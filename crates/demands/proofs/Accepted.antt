@@ -8,7 +8,7 @@
 -- Assumes nothing.
 use mathlib.Core.Bool.{true, true≢false}
 use mathlib.Core.List.{List, [], _∷_, _++_}
-use mathlib.Core.Path.{_≡_, refl, _∙_, ap, sym}
+use mathlib.Core.Path.{_≡_, refl, _∙_, ap, sym, subst}
 use Prim.Native.Nat.{ℕ, _+_, _≤_}
 use native.Mathlib.Omega.{arith}
 use lib.Dec.{ltb}
@@ -30,14 +30,14 @@ use Rattle.number.proofs.Verdicts.{number-allowed, form-allowed}
 use Rattle.tree.specs.Table.{lentRows, treeRows, Treed, filled, kept, Untreed, found, none, unfit}
 use Rattle.tree.proofs.Sizes.{sizes-right}
 use Rattle.tree.proofs.Theorems.{tree-accepts}
-use Rattle.record.specs.Record.{isUnknown, kindOf, roomRow, writeRows, readRows, cut}
+use Rattle.record.specs.Record.{Kind, isUnknown, kindOf, roomRow, writeRows, kindRows, readRows, cut}
 use Rattle.reading.proofs.Parts.{read-facts}
-use Rattle.reading.proofs.Meaning.{read-means}
+use Rattle.reading.proofs.Meaning.{numbered-facts, read-means}
 use Rattle.demands.specs.Calls.{Call, Gives}
 use Rattle.demands.specs.Calls.{CountsOf, of-count, of-check, of-next, of-changed, of-run, of-run-changed, of-number, of-form, of-form-on-sheet, of-tree, of-schedule-of-tree, of-read, of-write}
 use Rattle.demands.specs.Calls.{BeatsOf, in-check, in-next, in-changed, in-run, in-run-changed, in-number, in-tree, in-write}
 use Rattle.demands.specs.Calls.{Owed, beats, formed, left, right, parent, from-left, from-right, from-parent, schedule}
-use Rattle.demands.specs.Demands.{Wrong, counts-above, more-down, bad-beat, wrong-length, no-form, no-form-on-sheet, cut-record}
+use Rattle.demands.specs.Demands.{Wrong, counts-above, more-down, bad-beat, wrong-length, no-form, no-form-on-sheet, no-form-in-record, cut-record}
 use Rattle.demands.proofs.Calls.{verdict-answer, verdict-told}
 
 pub taken : (v : Verdict) (n : ℕ) → Verdict.Accepted ≡ verdict (answer v n) → v ≡ Verdict.Accepted
@@ -121,4 +121,7 @@ call-refused c m x (bad-beat bs k h w) g = omega (arith, accepted-beats m x (ask
 call-refused c m x (wrong-length o d) g = d (accepted-owed m x o g)
 call-refused c m x (no-form {t} {s} {n} {out} h) g = omega (arith, number-allowed t s n (form-allowed t s n out (sym (g .0 .0)) .0) .2)
 call-refused c m x (no-form-on-sheet {t} {s} {n} {sheet} {column} h) g = omega (arith, number-allowed t s n (sheet-number t s n sheet column (sym (g .0 .0))) .2)
+call-refused c m x (no-form-in-record {src} {out} k h) g =
+    let rows = read-facts (length out) src (sym (g .0 .0 ∙ verdict-told _ _ _ _ _)) .4 in
+    omega (arith, numbered-facts src (subst (λ (kind : Kind). judge (kindRows kind src) ≡ Verdict.Accepted) k rows) .2)
 call-refused c m x (cut-record {src} {out} h) g = true≢false (sym h ∙ read-facts (length out) src (sym (g .0 .0 ∙ verdict-told _ _ _ _ _)) .1)

@@ -25,7 +25,8 @@ use Rattle.circle.specs.Walk.{steps, worked}
 use Rattle.circle.specs.Walk as walk
 use Rattle.circle.specs.Answers.{longest}
 use Rattle.number.specs.Number.{Fewest}
-use Rattle.record.specs.Record.{cut}
+use Rattle.record.specs.Bytes.{valueOf}
+use Rattle.record.specs.Record.{numbered, kindIn, ups, downs, body, cut}
 use Rattle.demands.specs.Calls.{Call, next, run, number, form, form-on-sheet, read, lent, Gives, silenced, CountsOf, BeatsOf, Owed}
 
 pub data Wrong : Call → Type 0 where
@@ -35,6 +36,7 @@ pub data Wrong : Call → Type 0 where
   wrong-length : {c : Call} {l : List ℕ} {n : ℕ} → Owed c l n → length l ≢ n → Wrong c
   no-form : {t s n : ℕ} {out : List ℕ} → N t s ≤ n → Wrong (form t s n out)
   no-form-on-sheet : {t s n : ℕ} {sheet : List ℕ} {column : ℕ} → N t s ≤ n → Wrong (form-on-sheet t s n sheet column)
+  no-form-in-record : {src out : List ℕ} → kindIn src ≡ numbered → N (ups src) (downs src) ≤ valueOf (body src) → Wrong (read src out)
   cut-record : {src out : List ℕ} → cut src ≡ true → Wrong (read src out)
 
 -- "Every entry point takes every input, ends, and either does its work or refuses by number. [...] are refused; a refusal changes nothing

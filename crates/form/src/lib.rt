@@ -7,7 +7,8 @@ ghost use mathlib.Core.Path.{_≡_};
 ghost use Prim.Native.Nat.{_+_, _-_, _≤_, _<_};
 ghost use lib.ListN.{length, drop};
 ghost use Rattle.refusal.specs.Order.{judge};
-ghost use Rattle.triangle.specs.Count.{N, largest, Counts};
+ghost use Rattle.triangle.specs.Count.{N, largest};
+ghost use Rattle.lookup.specs.Lent.{Counts};
 ghost use Rattle.circle.specs.Step.{top};
 ghost use Rattle.number.specs.Number.{formOf};
 ghost use Rattle.number.specs.Answers.{numberRows, formVerdict, formLeft, sheetVerdict, sheetLeft};
@@ -30,7 +31,7 @@ fn floor(counts: &[u64], p: u64, q: u64) -> u64
     if q == 0 {
         0
     } else {
-        triangle::look(counts, p, q - 1)
+        lookup::look(counts, p, q - 1)
     }
 }
 
@@ -63,12 +64,12 @@ fn write(counts: &[u64], t: u64, s: u64, number: u64, out: &mut [u8])
 {
     let mut at = out.len();
     let mut p = t;
-    let mut all = triangle::look(counts, t, s);
+    let mut all = lookup::look(counts, t, s);
     let mut low = floor(counts, t, s);
     let mut k = listed(number, all);
     while k != all {
         at -= 1;
-        let next = triangle::look(counts, p - 1, at as u64 - p);
+        let next = lookup::look(counts, p - 1, at as u64 - p);
         let down = k < low;
         out[at] = !down as u8;
         k -= pick(down, 0, low - 1);
@@ -88,7 +89,7 @@ fn numbered(counts: &[u64], t: u64, s: u64, number: u64) -> Verdict
     match verdict {
         Verdict::Refused(why) => Verdict::Refused(why),
         Verdict::Accepted => {
-            if number < triangle::look(counts, t, s) {
+            if number < lookup::look(counts, t, s) {
                 Verdict::Accepted
             } else {
                 Verdict::Refused(Refusal::NoSuchNumber)

@@ -4,7 +4,8 @@
 ghost use mathlib.Core.Bool.{false};
 ghost use mathlib.Core.Path.{_≡_};
 ghost use Prim.Native.Nat.{_+_, _-_, _*_, _≤_};
-ghost use Rattle.triangle.specs.Count.{N, largest, Counts};
+ghost use Rattle.triangle.specs.Count.{N, largest};
+ghost use Rattle.lookup.specs.Lent.{Counts};
 ghost use Rattle.number.specs.Answers.{numberAnswer};
 ghost use Rattle.number.specs.Ranking.{isSized, goesOn, Ranks};
 use refusal::Answer;
@@ -22,7 +23,7 @@ fn growth(counts: &[u64], ups: u64, downs: u64, beat: u64) -> u64
     requires { ⌜ Counts (now counts) × (ups + beat ≤ largest) × (1 ≤ downs) × (downs ≤ ups) × (beat ≤ 1) ⌝ }
     ensures { λ r. ⌜ r ≡ beat * (N (ups + beat) (downs - 1) - 1) ⌝ }
 {
-    beat * (triangle::look(counts, ups + beat, downs - 1) - 1)
+    beat * (lookup::look(counts, ups + beat, downs - 1) - 1)
 }
 
 // Whether the counts are allowed and the beats are as many as they say.
@@ -91,7 +92,7 @@ fn rank(counts: &[u64], t: u64, s: u64, beats: &[u8]) -> Ranked
         return unranked();
     }
     ups += 1;
-    let mut number = triangle::look(counts, ups, downs) - 1;
+    let mut number = lookup::look(counts, ups, downs) - 1;
     let mut at = rise + 1;
     while at < beats.len() {
         let beat = wide(beats[at]);

@@ -2,7 +2,8 @@
 ghost use mathlib.Core.Path.{_≡_};
 ghost use Prim.Native.Nat.{_+_, _≤_};
 ghost use lib.ListN.{length};
-ghost use Rattle.triangle.specs.Count.{largest, Counts};
+ghost use Rattle.triangle.specs.Count.{largest};
+ghost use Rattle.lookup.specs.Lent.{Counts};
 ghost use Rattle.packing.specs.Listed.{widest, Listed};
 use reading::Reading;
 

@@ -5,7 +5,7 @@
 ghost use mathlib.Core.Path.{_≡_};
 ghost use Prim.Native.Nat.{_+_, _≤_, _<_};
 ghost use lib.ListN.{length, take, drop};
-ghost use Rattle.triangle.specs.Count.{Counts};
+ghost use Rattle.lookup.specs.Lent.{Counts};
 ghost use Rattle.packing_list.specs.Window.{Inside};
 use libc::STDIN_FILENO;
 use libc::STDOUT_FILENO;
@@ -147,7 +147,7 @@ fn run(counts: &[u64], input: &mut [u8], text: &mut [u8])
 fn main() {
     let mut input = io::large_buffer();
     let mut text = io::large_buffer();
-    let mut counts = [0u64; triangle::PLACES];
-    triangle::fill(&mut counts);
+    let mut counts = [0u64; lookup::PLACES];
+    lookup::fill(&mut counts);
     run(&counts, &mut input, &mut text);
 }

@@ -2,7 +2,7 @@
 // specs/Reading, which says what reading answers and leaves by the definitions of `record`; proofs/Theorems
 // says that what was written is read back, and that what is read is written again byte for byte.
 ghost use mathlib.Core.Path.{_≡_};
-ghost use Rattle.triangle.specs.Count.{Counts};
+ghost use Rattle.lookup.specs.Lent.{Counts};
 ghost use Rattle.reading.specs.Reading.{readAnswer, readLeft};
 ghost use Rattle.reading.specs.Reading as said;
 use refusal::Refusal;

@@ -1,8 +1,6 @@
 -- The definitions of specs/ on small inputs: for each one value and another. Assumes nothing.
-use mathlib.Core.List.{List, [], _∷_}
 use mathlib.Core.Path.{_≡_, refl}
-use native.Mathlib.Omega.{arith}
-use Rattle.triangle.specs.Count.{N, C, counted, place, Counts}
+use Rattle.triangle.specs.Count.{N, C, counted, place}
 use Rattle.triangle.specs.Table.{at}
 
 -- five schedules of 3, 2, and none that sets down more than it takes up
@@ -45,11 +43,3 @@ place-4 = refl
 
 place-0 : place 0 0 ≡ 0
 place-0 = refl
-
--- an empty list of counts is right as far as it goes; one that begins with 2 is not
-counts-empty : Counts []
-counts-empty = λ t s h k l. absurd (omega arith)
-
-counts-2 : Counts (2 ∷ []) → ⊥
-unfolding N
-counts-2 p = omega (arith, p 0 0 (omega arith) (omega arith) (omega arith))

@@ -1,9 +1,9 @@
 -- The table holds the counts: its addition rule is tested once over the whole table, and a law turns the test into N at each entry [N6] [F2].
---     ruled, sized, fitting     the tests, which the check computes: each entry follows from its neighbours; each row is as long as the table; each entry fits 64 bits
+--     ruled, sized, bounded     the tests, which the check computes: each entry follows from its neighbours; each row is as long as the table; no entry is above the last
 --     at-N                      the entry at t, s is N(t, s)
 --     at-row-outside, at-column-outside     outside the table it is 0
 --     at-counted                so it is `counted` everywhere
---     N-fits                    N(t, s) fits 64 bits for every allowed t
+--     N-most, N-fits            no N(t, s) of an allowed t is above the last, which fits 64 bits
 -- Assumes nothing.
 use mathlib.Core.Bool.{Bool, cond}
 use mathlib.Core.List.{List, []}
@@ -12,7 +12,7 @@ use Prim.Native.Nat.{ℕ, zero, suc, _+_, _^_, _<_, _≤_}
 use native.Mathlib.Omega.{arith}
 use native.Mathlib.Decide.{decLe, decLt}
 use borrow.Author.Tests.{le-leb, lt-leb}
-use lib.Dec.{T, eqb, leb, ltb, eqb→eq, ltb→lt}
+use lib.Dec.{T, eqb, leb, eqb→eq, leb→le}
 use lib.ListN.{length, getD, List·getD-eq-default}
 use Rattle.triangle.specs.Count.{N, largest, counted}
 use Rattle.triangle.specs.Table.{table, at}
@@ -37,9 +37,13 @@ sized : T (eqb (length table) (suc largest)) × T (every (λ t. eqb (length (get
 unfolding every
 sized = (tt, tt)
 
-fitting : T (throughout (λ t s. ltb (at t s) (2 ^ 64)))
+-- the last entry
+abbrev pub most : ℕ
+most = at largest largest
+
+bounded : T (throughout (λ t s. leb (at t s) most))
 unfolding throughout every
-fitting = tt
+bounded = tt
 
 throughout-at : (f : ℕ → ℕ → Bool) → T (throughout f) → (t s : ℕ) → t ≤ largest → s ≤ largest → T (f t s)
 unfolding throughout
@@ -79,8 +83,11 @@ at-counted t s = elim (decLe t largest) [ yes h ↦ inside h | no h ↦ at-row-o
     inside : t ≤ largest → at t s ≡ cond (leb t largest) (N t s) 0
     inside h = simp (le-leb t largest h) (elim (decLe s largest) [ yes k ↦ at-N t s h k | no k ↦ at-column-outside t s (omega arith) ∙ sym (N-over t s (omega arith)) ])
 
-pub N-fits : (t s : ℕ) → t ≤ largest → N t s < 2 ^ 64
-N-fits t s h = elim (decLe s largest) [ yes k ↦ fits k | no k ↦ omega (arith, N-over t s (omega arith)) ]
+pub N-most : (t s : ℕ) → t ≤ largest → N t s ≤ most
+N-most t s h = elim (decLe s largest) [ yes k ↦ below k | no k ↦ omega (arith, N-over t s (omega arith)) ]
   where
-    fits : s ≤ largest → N t s < 2 ^ 64
-    fits k = rw (at-N t s h k) at (ltb→lt (at t s) (2 ^ 64) (throughout-at (λ i j. ltb (at i j) (2 ^ 64)) fitting t s h k))
+    below : s ≤ largest → N t s ≤ most
+    below k = rw (at-N t s h k) at (leb→le (at t s) most (throughout-at (λ i j. leb (at i j) most) bounded t s h k))
+
+pub N-fits : (t s : ℕ) → t ≤ largest → N t s < 2 ^ 64
+N-fits t s h = omega (arith, N-most t s h)

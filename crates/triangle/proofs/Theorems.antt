@@ -3,7 +3,7 @@
 --     closed-formula     N(t, s) = C(t+s, t) − C(t+s, t+1) for s from 1 to t [N3]
 --     addition-rule      N(t, s) = N(t−1, s) + N(t, s−1) for s from 1 to t [N4]
 --     none-above         N is 0 where s is above t [N5]
---     largest-counts     N(32, 32) = N(32, 31) = 55,534,064,877,048,198 [N8]
+--     largest-counts     N(32, 32) = N(32, 31) = 55,534,064,877,048,198, and no allowed pair of counts has more [N8]
 --     fits-64-bits       every count of an allowed t fits the eight-byte number [N9]
 -- That N(t, s) is how many schedules there are is a theorem of the crate `schedule`, which defines what a schedule is.
 -- Assumes nothing.
@@ -14,7 +14,7 @@ use native.Mathlib.Omega.{arith}
 use Rattle.triangle.specs.Count.{N, C, largest}
 use Rattle.triangle.proofs.Count.{N-zero, N-over, N-add}
 use Rattle.triangle.proofs.Binomial.{N-choose}
-use Rattle.triangle.proofs.Rule.{at-N, N-fits}
+use Rattle.triangle.proofs.Rule.{at-N, N-most, N-fits}
 
 pub closed-formula : (t s : ℕ) → 1 ≤ s → s ≤ t → N t s ≡ C (t + s) t - C (t + s) (suc t)
 closed-formula t s l h = omega (arith, N-choose t s h)
@@ -30,8 +30,8 @@ one-without-zeros = N-zero
 pub none-above : (t s : ℕ) → t < s → N t s ≡ 0
 none-above = N-over
 
-pub largest-counts : (N 32 32 ≡ 55534064877048198) × (N 32 31 ≡ 55534064877048198)
-largest-counts = (sym (at-N 32 32 (omega arith) (omega arith)), sym (at-N 32 31 (omega arith) (omega arith)))
+pub largest-counts : (N 32 32 ≡ 55534064877048198) × (N 32 31 ≡ 55534064877048198) × ((t s : ℕ) → t ≤ largest → N t s ≤ 55534064877048198)
+largest-counts = (sym (at-N 32 32 (omega arith) (omega arith)), sym (at-N 32 31 (omega arith) (omega arith)), N-most)
 
 pub fits-64-bits : (t s : ℕ) → t ≤ largest → N t s < 2 ^ 64
 fits-64-bits = N-fits

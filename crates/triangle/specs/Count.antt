@@ -4,13 +4,9 @@
 --     C n k       how many ways there are to take k of n things, by Pascal's rule
 --     counted     N for the counts that are allowed, and 0 for more tasks than the largest number
 --     place t s   where the count of t, s stands among the counts with s up to t, row after row
---     Counts l    as far as it goes, l is those counts; the empty list is, too
 use mathlib.Core.Bool.{cond}
-use mathlib.Core.List.{List}
-use mathlib.Core.Path.{_≡_}
-use Prim.Native.Nat.{ℕ, zero, suc, _+_, _*_, _/_, _≤_, _<_}
+use Prim.Native.Nat.{ℕ, zero, suc, _+_, _*_, _/_}
 use lib.Dec.{leb}
-use lib.ListN.{length, getD}
 
 abbrev pub largest : ℕ
 largest = 32
@@ -30,6 +26,3 @@ counted t s = cond (leb t largest) (N t s) 0
 
 abbrev pub place : ℕ → ℕ → ℕ
 place t s = t * (t + 1) / 2 + s
-
-abbrev pub Counts : List ℕ → Type 0
-Counts l = (t s : ℕ) → t ≤ largest → s ≤ t → place t s < length l → getD l (place t s) 0 ≡ N t s

@@ -3,6 +3,7 @@
 use mathlib.Core.List.{List}
 use mathlib.Core.Path.{_≡_, _∙_, sym}
 use Prim.Native.Nat.{ℕ}
+use native.Mathlib.Omega.{arith}
 use borrow.Author.Needs.{needs}
 use Rattle.refusal.specs.declared.Verdict.{Verdict}
 use Rattle.refusal.specs.Order.{judge}
@@ -37,7 +38,7 @@ walk-requires c κs =
     let told = c .before in
     let args = start told .args in
     let allowed = run-allowed (args .t) (args .s) (beats told) (args .k) (accepted told) in
-    (accepted-form (args .t) (args .s) (beats told) (allowed .0), allowed .1)
+    (accepted-form (args .t) (args .s) (beats told) (allowed .0), omega (arith, allowed .1))
 
 same-length : tie.Need-same-length
 same-length c = search needs

@@ -1,0 +1,3 @@
+pub mod Filling
+pub mod Theorems
+pub mod Cases
