@@ -40,7 +40,7 @@ fn print_back(n: u64, left: &[u8], right: &[u8], parent: &[u8], out: &mut [u8]) 
     print_tables(left, right, parent);
     print_number(out.len() as u64);
     show::text(b": ");
-    show::verdict(tree::schedule_of_tree(n, left, right, parent, out));
+    show::verdict(tree_back::schedule_of_tree(n, left, right, parent, out));
     print_bytes(out);
     show::text(b"\n");
 }

@@ -54,7 +54,7 @@ fn back_into(
     parent: &[u8],
     out: &mut [u8],
 ) -> Tally {
-    let v = tree::schedule_of_tree(n, left, right, parent, out);
+    let v = tree_back::schedule_of_tree(n, left, right, parent, out);
     let sum = fold_tables(tally.sum, v, left, right, parent);
     counted(tally, v.refusal(), show::digest(sum, out))
 }

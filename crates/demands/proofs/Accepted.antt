@@ -27,9 +27,10 @@ use Rattle.schedule.proofs.Theorems.{accepted-schedule}
 use Rattle.circle.specs.Answers.{longest, runRows}
 use Rattle.number.specs.Answers.{numberRows, formRows, formVerdict, sheetRows, sheetVerdict}
 use Rattle.number.proofs.Verdicts.{number-allowed, form-allowed}
-use Rattle.tree.specs.Table.{lentRows, treeRows, Treed, filled, kept, Untreed, found, none, unfit}
+use Rattle.tree.specs.Table.{lentRows, treeRows, Treed, filled, kept}
 use Rattle.tree.proofs.Sizes.{sizes-right}
 use Rattle.tree.proofs.Theorems.{tree-accepts}
+use Rattle.tree_back.specs.Back.{Untreed, found, none, unfit}
 use Rattle.record.specs.Record.{Kind, isUnknown, kindOf, roomRow, writeRows, kindRows, readRows, cut}
 use Rattle.reading.proofs.Parts.{read-facts}
 use Rattle.reading.proofs.Meaning.{numbered-facts, read-means}

@@ -19,8 +19,10 @@ use Rattle.circle.specs.Answers.{left, runRows, nextAnswer, runAnswer}
 use Rattle.circle.specs.Step as rule
 use Rattle.circle.specs.Walk as walk
 use Rattle.number.specs.Answers.{numberAnswer}
-use Rattle.tree.specs.Table.{Treed, filled, kept, Untreed, found, none, unfit}
-use Rattle.tree.proofs.Theorems.{treed-one, untreed-one}
+use Rattle.tree.specs.Table.{Treed, filled, kept}
+use Rattle.tree.proofs.Theorems.{treed-one}
+use Rattle.tree_back.specs.Back.{Untreed, found, none, unfit}
+use Rattle.tree_back.proofs.Theorems.{untreed-one}
 use Rattle.record.specs.Record.{recordOf, writeRows, writeAnswer, readRows}
 use Rattle.reading.specs.declared.Reading.{Reading}
 use Rattle.reading.specs.Reading.{told, readAnswer}

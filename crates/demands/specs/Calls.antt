@@ -18,7 +18,8 @@ use Rattle.counts.specs.Counts.{counting}
 use Rattle.schedule.specs.Check.{checked}
 use Rattle.circle.specs.Answers.{nextAnswer, nextLeft, runAnswer, runLeft}
 use Rattle.number.specs.Answers.{numberAnswer, formVerdict, formLeft, sheetVerdict, sheetLeft}
-use Rattle.tree.specs.Table.{Treed, Untreed}
+use Rattle.tree.specs.Table.{Treed}
+use Rattle.tree_back.specs.Back.{Untreed}
 use Rattle.record.specs.Record.{ups, downs, writeAnswer, writeLeft}
 use Rattle.reading.specs.Reading.{readAnswer, readLeft}
 use Rattle.reading.specs.Reading as said

@@ -8,17 +8,16 @@ use native.Mathlib.Omega.{arith}
 use lib.ListN.{length, getD}
 use Rattle.bounded.specs.Bounded.{firstFrom}
 use Rattle.refusal.specs.declared.Refusal.{Refusal}
-use Rattle.refusal.specs.declared.Refusal.the-variants.{TooManyTasks, WrongLength, EmptyHand, NoSuchTables}
+use Rattle.refusal.specs.declared.Refusal.the-variants.{TooManyTasks, WrongLength, EmptyHand}
 use Rattle.refusal.specs.declared.Verdict.{Verdict}
 use Rattle.refusal.specs.Answer.{refusal}
 use Rattle.refusal.specs.Order.{judge}
 use Rattle.refusal.proofs.Theorems.{refused-number}
 use Rattle.schedule.specs.Schedule.{ones, zeros}
 use Rattle.tree.specs.Tree.{Tree, leaf, node, size, word, root, lefts, rights, parents}
-use Rattle.tree.specs.Table.{Has, fits, sizeRows, lentRows, Treed, filled, kept, Untreed, found, unfit}
-use Rattle.tree.specs.Table as table
-use Rattle.tree.specs.Planting.{adopted, rootNumber, isNext, Traced, whole, broken}
-use Rattle.tree.proofs.Theorems.{has-closed, one-tables, treed-one, untreed-one}
+use Rattle.tree.specs.Table.{Has, fits, sizeRows, lentRows, Treed, filled, kept}
+use Rattle.tree.specs.Planting.{adopted}
+use Rattle.tree.proofs.Theorems.{has-closed, one-tables, treed-one}
 
 -- no node: the empty schedule, and empty tables
 none : Has 0 [] [] [] []
@@ -26,12 +25,12 @@ unfolding size word lefts rights parents
 none = record { tree = leaf; nodes = refl; beats = refl; left = refl; right = refl; parent = refl }
 
 -- one node, on which two leaves hang
-one : Has 1 (1 ∷ 0 ∷ []) (0 ∷ []) (0 ∷ []) (0 ∷ [])
+pub one : Has 1 (1 ∷ 0 ∷ []) (0 ∷ []) (0 ∷ []) (0 ∷ [])
 unfolding size word root lefts rights parents
 one = record { tree = node leaf leaf; nodes = refl; beats = refl; left = refl; right = refl; parent = refl }
 
 -- [E10] its root has no other parent: tables 0 / 0 / 1 are no schedule's. The tree has one node, which is its own word's only 1
-other-parent : (b : List ℕ) → Has 1 b (0 ∷ []) (0 ∷ []) (1 ∷ []) → ⊥
+pub other-parent : (b : List ℕ) → Has 1 b (0 ∷ []) (0 ∷ []) (1 ∷ []) → ⊥
 other-parent b q = by (q .tree) (q .parent)
   where
     by : (t : Tree) → 1 ∷ [] ≡ parents 0 1 t → ⊥
@@ -114,59 +113,9 @@ treed-changed : Treed 1 (0 ∷ 1 ∷ []) (7 ∷ []) (7 ∷ []) (7 ∷ []) (Verdi
     → ⊥
 treed-changed q = omega (arith, ap (λ (l : List ℕ). getD l 0 0) (treed-one q treed-01 .1))
 
--- the way back: tables that 10 has; tables that none has; a schedule lent too short
-untreed-10 : Untreed 1 (0 ∷ []) (0 ∷ []) (0 ∷ []) (7 ∷ 7 ∷ []) Verdict.Accepted (1 ∷ 0 ∷ [])
-untreed-10 = found refl one
-
-untreed-none : Untreed 1 (0 ∷ []) (0 ∷ []) (1 ∷ []) (7 ∷ 7 ∷ []) (Verdict.Refused NoSuchTables) (7 ∷ 7 ∷ [])
-untreed-none = table.none refl other-parent
-
-untreed-short : Untreed 1 (0 ∷ []) (0 ∷ []) (0 ∷ []) (7 ∷ []) (Verdict.Refused WrongLength) (7 ∷ [])
-untreed-short = unfit refl
-
-untreed-refused : (why : Refusal) (b : List ℕ)
-    → Untreed 1 (0 ∷ []) (0 ∷ []) (0 ∷ []) (7 ∷ 7 ∷ []) (Verdict.Refused why) b → ⊥
-untreed-refused why b q = omega (arith, ap refusal (untreed-one q untreed-10 .0), refused-number why .0)
-
-untreed-taken : (b : List ℕ) → Untreed 1 (0 ∷ []) (0 ∷ []) (1 ∷ []) (7 ∷ 7 ∷ []) Verdict.Accepted b → ⊥
-untreed-taken b q = omega (arith, ap refusal (untreed-one q untreed-none .0))
-
-untreed-changed : Untreed 1 (0 ∷ []) (0 ∷ []) (1 ∷ []) (7 ∷ 7 ∷ []) (Verdict.Refused NoSuchTables) (1 ∷ 0 ∷ []) → ⊥
-untreed-changed q = omega (arith, ap (λ (l : List ℕ). getD l 0 0) (untreed-one q untreed-none .1))
-
--- what the reading has found, and what it may not have found
-traced-10 : Traced 1 (0 ∷ []) (0 ∷ []) (0 ∷ []) (1 ∷ 0 ∷ []) true
-traced-10 = whole one
-
-traced-none : Traced 1 (0 ∷ []) (0 ∷ []) (1 ∷ []) [] false
-traced-none = broken other-parent
-
-not-whole : (b : List ℕ) → Traced 1 (0 ∷ []) (0 ∷ []) (1 ∷ []) b true → ⊥
-not-whole b (whole q) = other-parent b q
-
-not-broken : (b : List ℕ) → Traced 1 (0 ∷ []) (0 ∷ []) (0 ∷ []) b false → ⊥
-not-broken b (broken f) = f (1 ∷ 0 ∷ []) one
-
 -- a node adopts a node, and no leaf
 adopts : adopted 2 1 (0 ∷ 0 ∷ []) ≡ 0 ∷ 1 ∷ []
 adopts = refl
 
 adopts-no-leaf : adopted 0 1 (0 ∷ 0 ∷ []) ≡ 0 ∷ 0 ∷ []
 adopts-no-leaf = refl
-
--- the root of no node, and of some
-no-root : rootNumber 0 ≡ 0
-no-root = refl
-
-some-root : rootNumber 3 ≡ 1
-some-root = refl
-
--- the next node, one out of its turn, and one with another parent
-next-node : isNext (0 ∷ 1 ∷ []) 1 2 1 ≡ true
-next-node = refl
-
-out-of-turn : isNext (0 ∷ 1 ∷ []) 1 1 1 ≡ false
-out-of-turn = refl
-
-other-own : isNext (0 ∷ 1 ∷ []) 1 2 2 ≡ false
-other-own = refl

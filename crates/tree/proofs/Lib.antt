@@ -1,8 +1,6 @@
 pub mod Word
 pub mod Forest
 pub mod Planted
-pub mod Reading
-pub mod Tracing
 pub mod Sizes
 pub mod Rows
 pub mod Theorems

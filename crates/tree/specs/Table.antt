@@ -1,11 +1,10 @@
--- The tree tables of a closed schedule, document 01, "Tree table" and "Refusal numbers" (rows 1, 3 and 8; Order: trees). Definitions only.
+-- The tree tables of a closed schedule, document 01, "Tree table" and "Refusal numbers" (rows 1 and 3; Order: trees). Definitions only.
 --     Has          b is the word of a tree of n nodes with the final leaf left out, and l, r, p are the tree's tables, its nodes
 --                  numbered 1 to n; the root's parent is 0 [O4]
 --     fits         lengths of a schedule of 2n beats and of three tables of n
 --     sizeRows     the refusals by length, in their order: 1, 3; lentRows, of what is lent
 --     treeRows     the refusals of a schedule and of the tables lent for it, in their order: 1, 3, then 4, 5, 6 [R17]
 --     Treed        what the way from a schedule to its tables answers and leaves: the tables of its tree, or, refused, what was there
---     Untreed      what the way back answers and leaves: the schedule that has the tables; 8, and what was there, exactly if none has [R18]
 use mathlib.Core.Bool.{Bool, not, _&&_}
 use mathlib.Core.List.{List, [], _∷_, _++_}
 use mathlib.Core.Path.{_≡_}
@@ -13,7 +12,7 @@ use Prim.Native.Nat.{ℕ, _+_}
 use lib.Dec.{eqb, ltb}
 use lib.ListN.{length}
 use Rattle.refusal.specs.declared.Refusal.{Refusal}
-use Rattle.refusal.specs.declared.Refusal.the-variants.{TooManyTasks, WrongLength, NoSuchTables}
+use Rattle.refusal.specs.declared.Refusal.the-variants.{TooManyTasks, WrongLength}
 use Rattle.refusal.specs.declared.Verdict.{Verdict}
 use Rattle.refusal.specs.Order.{Row, _⇒_, judge}
 use Rattle.triangle.specs.Count.{largest}
@@ -44,8 +43,3 @@ treeRows n b l r p = lentRows n b l r p ++ playRows n b
 pub data Treed (n : ℕ) (b l r p : List ℕ) : Verdict → List ℕ → List ℕ → List ℕ → Type 0 where
   filled : {l′ r′ p′ : List ℕ} → judge (treeRows n b l r p) ≡ Verdict.Accepted → Has n b l′ r′ p′ → Treed n b l r p Verdict.Accepted l′ r′ p′
   kept : {why : Refusal} → judge (treeRows n b l r p) ≡ Verdict.Refused why → Treed n b l r p (Verdict.Refused why) l r p
-
-pub data Untreed (n : ℕ) (l r p b : List ℕ) : Verdict → List ℕ → Type 0 where
-  found : {b′ : List ℕ} → judge (lentRows n b l r p) ≡ Verdict.Accepted → Has n b′ l r p → Untreed n l r p b Verdict.Accepted b′
-  none : judge (lentRows n b l r p) ≡ Verdict.Accepted → ((c : List ℕ) → Has n c l r p → ⊥) → Untreed n l r p b (Verdict.Refused NoSuchTables) b
-  unfit : {why : Refusal} → judge (lentRows n b l r p) ≡ Verdict.Refused why → Untreed n l r p b (Verdict.Refused why) b

@@ -1,16 +1,17 @@
--- `tree::rebuild` meets its contract: what was read is copied where the tables have it. Assumes nothing.
+-- `tree_back::rebuild` meets its contract: what was read is copied where the tables have it. Assumes nothing.
 use mathlib.Core.List.{List}
 use mathlib.Core.Path.{_≡_, _∙_, sym, subst}
 use Prim.Native.Nat.{ℕ, _+_, _≤_}
 use lib.ListN.{length}
 use Rattle.triangle.specs.Count.{largest}
-use Rattle.tree.specs.Table.{Has, found, none}
+use Rattle.tree.specs.Table.{Has}
+use Rattle.tree_back.specs.Back.{found, none}
 use Rattle.tree.proofs.Sizes.{sizes-right}
 use Rattle.schedule.proofs.Copied.{copied}
-use Rattle.tree.proofs.Tracing.{traced-whole, traced-broken}
+use Rattle.tree_back.proofs.Tracing.{traced-whole, traced-broken}
 use borrow.Author.Needs.{needs}
-use Rattle.tree.proofs.rebuild.Statement.{statement}
-use Rattle.tree.proofs.rebuild.Tie as tie
+use Rattle.tree_back.proofs.rebuild.Statement.{statement}
+use Rattle.tree_back.proofs.rebuild.Tie as tie
 
 -- the sizes fit
 module _ (c : tie.After-slice-known2) where

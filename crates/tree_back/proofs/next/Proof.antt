@@ -1,9 +1,9 @@
--- `tree::next` meets its contract, one part of the test at each return. Assumes nothing.
+-- `tree_back::next` meets its contract, one part of the test at each return. Assumes nothing.
 use native.Mathlib.Omega.{arith}
-use Rattle.tree.proofs.Rows.{next-out, next-other, next-own}
+use Rattle.tree_back.proofs.Rows.{next-out, next-other, next-own}
 use borrow.Author.Needs.{needs}
-use Rattle.tree.proofs.next.Statement.{statement}
-use Rattle.tree.proofs.next.Tie as tie
+use Rattle.tree_back.proofs.next.Statement.{statement}
+use Rattle.tree_back.proofs.next.Tie as tie
 
 returns : tie.Need-returns
 returns c = let start = c .before in next-out (start .args .parent .now) (start .args .row) (start .args .child) (start .args .own) (omega (arith, c .if1 .taken))

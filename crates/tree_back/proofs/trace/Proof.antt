@@ -1,4 +1,4 @@
--- `tree::trace` meets its contract. The loop's invariant: the beats so far begin the word of every tree that the tables have, and with what
+-- `tree_back::trace` meets its contract. The loop's invariant: the beats so far begin the word of every tree that the tables have, and with what
 -- is still to be read they make one. The measure is the beats still to write, and each turn writes one. Assumes nothing.
 use mathlib.Core.Path.{_≡_, refl, _∙_, sym}
 use Prim.Native.Nat.{ℕ, suc, _+_, _-_, _≤_, _<_}
@@ -7,10 +7,10 @@ use borrow.Author.Needs.{needs}
 use borrow.Author.Tests.{not-true, not-false}
 use lib.ListN.{length, getD, length-set}
 use Rattle.triangle.specs.Count.{largest}
-use Rattle.tree.specs.Planting.{broken}
-use Rattle.tree.proofs.Tracing.{Traced-to, trace-start, trace-leaf, trace-node, trace-stuck, trace-other, trace-end, next-so, next-not}
-use Rattle.tree.proofs.trace.Statement.{statement}
-use Rattle.tree.proofs.trace.Tie as tie
+use Rattle.tree_back.specs.Tracing.{broken}
+use Rattle.tree_back.proofs.Tracing.{Traced-to, trace-start, trace-leaf, trace-node, trace-stuck, trace-other, trace-end, next-so, next-not}
+use Rattle.tree_back.proofs.trace.Statement.{statement}
+use Rattle.tree_back.proofs.trace.Tie as tie
 
 abbrev Inv-loop : tie.InvT-loop
 Inv-loop left right parent beats₀ stack₀ depth₀ row₀ own₀ child₀ at₀ beats stack depth row own child at =

@@ -1,4 +1,4 @@
--- `tree::schedule_of_tree` meets its contract: a refusal by size leaves what was lent; else the way back is made in the room of its own.
+-- `tree_back::schedule_of_tree` meets its contract: a refusal by size leaves what was lent; else the way back is made in the room of its own.
 -- Assumes nothing.
 use mathlib.Core.List.{List}
 use mathlib.Core.Path.{_≡_, _∙_, sym, subst}
@@ -9,11 +9,12 @@ use lib.Seq.{length-take-le}
 use Rattle.refusal.specs.declared.Verdict.{Verdict}
 use Rattle.refusal.specs.Order.{judge}
 use Rattle.triangle.specs.Count.{largest}
-use Rattle.tree.specs.Table.{lentRows, Untreed, unfit}
+use Rattle.tree.specs.Table.{lentRows}
+use Rattle.tree_back.specs.Back.{Untreed, unfit}
 use Rattle.tree.proofs.Sizes.{sizes-right}
 use borrow.Author.Needs.{needs}
-use Rattle.tree.proofs.schedule_of_tree.Statement.{statement}
-use Rattle.tree.proofs.schedule_of_tree.Tie as tie
+use Rattle.tree_back.proofs.schedule_of_tree.Statement.{statement}
+use Rattle.tree_back.proofs.schedule_of_tree.Tie as tie
 
 -- in the second arm the sizes fit
 module _ (c : tie.After-enum-told) where

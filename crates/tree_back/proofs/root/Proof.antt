@@ -1,8 +1,8 @@
--- `tree::root` meets its contract. Assumes nothing.
-use Rattle.tree.proofs.Rows.{root-some}
+-- `tree_back::root` meets its contract. Assumes nothing.
+use Rattle.tree_back.proofs.Rows.{root-some}
 use borrow.Author.Needs.{needs}
-use Rattle.tree.proofs.root.Statement.{statement}
-use Rattle.tree.proofs.root.Tie as tie
+use Rattle.tree_back.proofs.root.Statement.{statement}
+use Rattle.tree_back.proofs.root.Tie as tie
 
 returns : tie.Need-returns
 returns c = search needs

@@ -21,16 +21,16 @@ use native.Mathlib.Omega.{arith}
 use native.Mathlib.Decide.{ℕ-discrete}
 use borrow.Author.Tests.{lt-ltb, eq-eqb, ne-eqb, ltb-true, eqb-true}
 use lib.Dec.{eqb, ltb}
-use lib.ListN.{length, getD, set, take, drop, length-set}
+use lib.ListN.{length, getD, set, take, length-set}
 use lib.Seq.{take-all, take-suc-set, getD-set-same, getD-set-other}
 use Rattle.schedule.specs.Schedule.{ones, zeros}
 use Rattle.tree.specs.Tree.{Tree, leaf, node, size, word, root, rights, parents}
-use Rattle.tree.specs.Planting.{rootNumber, isNext, Traced, whole, broken}
+use Rattle.tree_back.specs.Tracing.{rootNumber, isNext, Traced, whole, broken}
 use Rattle.tree.specs.Table.{Has}
 use Rattle.tree.proofs.Word.{ones-join, ones-word}
 use Rattle.tree.proofs.Forest.{words}
 use Rattle.tree.proofs.Planted.{pop, push}
-use Rattle.tree.proofs.Reading.{Reads, none, tables-read, read-tables, entry, Rest, last, more, rest-pop, rest-last, rest-open, rest-close}
+use Rattle.tree_back.proofs.Reading.{Reads, none, tables-read, read-tables, entry, Rest, last, more, rest-pop, rest-last, rest-open, rest-close}
 
 root-number : (t : Tree) → root 1 t ≡ rootNumber (size t)
 unfolding root size

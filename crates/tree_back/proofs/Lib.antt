@@ -1,0 +1,5 @@
+pub mod Reading
+pub mod Tracing
+pub mod Rows
+pub mod Theorems
+pub mod Cases
