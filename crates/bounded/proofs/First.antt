@@ -1,6 +1,5 @@
 -- The first number below n at which a test holds.
 --     Found, found, found-unique     what the search from a number on finds, and that it is one number
---     first-le         it is at most n
 --     first-holds      where it is below n, the test holds there
 --     first-before     the test holds at no number before it
 --     first-is         so a number below n at which the test holds, and before which it holds nowhere, is the first
@@ -43,9 +42,6 @@ found-unique {f} {i} {n} {k} {m} p q =
     ]
 
 module _ (f : ℕ → Bool) (n : ℕ) where
-  pub first-le : first f n ≤ n
-  first-le = omega (arith, found f 0 n .high)
-
   pub first-holds : first f n < n → f (first f n) ≡ true
   first-holds h = found f 0 n .holds (omega arith)
 

@@ -1,6 +1,6 @@
 // One call of either way, printed with its input. The bytes that are lent to be filled are 7 before the call,
 // and the line has them as they are after it.
-use reading::Reading;
+use order::Reading;
 
 fn print_number(n: u64) {
     show::text(b" ");

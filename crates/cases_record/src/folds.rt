@@ -1,5 +1,5 @@
 // What many calls answered and left, for the lines that stand for many calls.
-use reading::Reading;
+use order::Reading;
 use refusal::Answer;
 
 // How many calls were as wished, and the digest of every call's answer and of all bytes that were lent to it

@@ -23,7 +23,7 @@ use Rattle.circle.proofs.Moves.{has01-none, has01-some}
 use Rattle.circle.proofs.Circle.{same-rank, next-schedule, next-rank, steps-schedule, top-schedule}
 use Rattle.circle.proofs.Work.{changed-self, changed-same, Work, idle, turn, swap, dip, next-work, turn-two, swap-two, dip-four}
 
-pub next-injective : {t s : ℕ} {b c : List ℕ} → Schedule t s b → Schedule t s c → next b ≡ next c → b ≡ c
+next-injective : {t s : ℕ} {b c : List ℕ} → Schedule t s b → Schedule t s c → next b ≡ next c → b ≡ c
 next-injective {t} {s} {b} {c} p q e = same-rank p q (by (next-rank p) (next-rank q))
   where
     by : (rankOf (next b) ≡ suc (rankOf b)) ⊎ ((rankOf (next b) ≡ 0) × (suc (rankOf b) ≡ N t s))

@@ -59,16 +59,16 @@ module _ (t s : ℕ) (b : List ℕ) (k : ℕ) where
       let none = accepted-none (long ∷ []) (judge-back (checkRows t s b) (long ∷ []) e) long (List·Memᴰ·head refl) in
       (judge-front (checkRows t s b) (long ∷ []) e, ltb-false longest k none)
 
-pub own-counts : {t s : ℕ} {b : List ℕ} → Schedule t s b → Form b
+own-counts : {t s : ℕ} {b : List ℕ} → Schedule t s b → Form b
 own-counts p = plays-schedule (schedule-plays p) refl refl
 
 pub accepted-form : (t s : ℕ) (b : List ℕ) → checked t s b ≡ Verdict.Accepted → Form b
 accepted-form t s b e = own-counts (accepted-schedule t s b e .1)
 
-pub step-form : {b : List ℕ} → Form b → Form (next b)
+step-form : {b : List ℕ} → Form b → Form (next b)
 step-form f = own-counts (next-schedule f)
 
-pub changed-four : {b : List ℕ} → Form b → changed b (next b) ≤ 4
+changed-four : {b : List ℕ} → Form b → changed b (next b) ≤ 4
 changed-four {b} f = by (next-work b (schedule-plays f))
   where
     by : Work b (next b) → changed b (next b) ≤ 4

@@ -26,7 +26,7 @@ rank (suc x ∷ r) = raise (suc (ones r)) (zeros r) (rank r)
 abbrev pub rankOf : List ℕ → ℕ
 rankOf b = rank (reverse b)
 
-pub raise-below : (t s v : ℕ) → s ≤ t → v < N t s → raise (suc t) s v < N (suc t) s
+raise-below : (t s v : ℕ) → s ≤ t → v < N t s → raise (suc t) s v < N (suc t) s
 unfolding raise
 raise-below t s zero h k = omega (arith, N-pos (suc t) s (omega arith))
 raise-below t zero (suc v) h k = omega (arith, N-zero t)

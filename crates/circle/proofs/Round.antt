@@ -142,7 +142,7 @@ module _ (t s : ℕ) {b : List ℕ} (p : Schedule (suc t) (suc s) b) where
       true≢false
       (sym (keep-mem (isDip (suc t) (suc s)) (ring (N (suc t) (suc s)) b) first m .1) ∙ not-other (suc t) (suc s) first (after-top t s) refl)
 
-  pub round-dips : suc (dips (suc t) (suc s) (N (suc t) (suc s)) b) ≡ N t s
+  round-dips : suc (dips (suc t) (suc s) (N (suc t) (suc s)) b) ≡ N t s
   round-dips =
       let listed = distinct-lists (Second (suc t) (suc s)) (first ∷ dipping) (more first-once (keep-distinct (isDip (suc t) (suc s)) (ring-distinct p (N (suc t) (suc s)) (omega arith)))) dipping-second dip-or-first in
       ap suc (sym (keep-length (isDip (suc t) (suc s)) (ring (N (suc t) (suc s)) b) ∙ tally-ring (suc t) (suc s) (N (suc t) (suc s)) b))

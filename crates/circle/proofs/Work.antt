@@ -36,7 +36,7 @@ changed-same (x ∷ b) (y ∷ c) n e = by (eqb x y) refl e (changed-same b c (om
     by true q d tail = let same = eqb-true x y q in let rest = tail (omega arith) in cc
     by false q d tail = absurd (omega arith)
 
-pub changed-le : (b c : List ℕ) → changed b c ≤ length b
+changed-le : (b c : List ℕ) → changed b c ≤ length b
 unfolding changed
 changed-le [] c = omega arith
 changed-le (x ∷ b) [] = omega arith

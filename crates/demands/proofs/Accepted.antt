@@ -18,6 +18,7 @@ use Rattle.refusal.specs.declared.Verdict.{Verdict}
 use Rattle.refusal.specs.Answer.{answer, verdict}
 use Rattle.refusal.specs.Order.{Row, _⇒_, judge}
 use Rattle.refusal.proofs.Order.{judge-front, judge-back}
+use Rattle.refusal.proofs.Theorems.{verdict-answer}
 use Rattle.triangle.specs.Count.{N, largest}
 use Rattle.counts.specs.Counts.{Allowed, countRows}
 use Rattle.counts.proofs.Sizes.{counts-allowed}
@@ -39,7 +40,7 @@ use Rattle.demands.specs.Calls.{CountsOf, of-count, of-check, of-next, o
 use Rattle.demands.specs.Calls.{BeatsOf, in-check, in-next, in-changed, in-run, in-run-changed, in-number, in-tree, in-write}
 use Rattle.demands.specs.Calls.{Owed, beats, formed, left, right, parent, from-left, from-right, from-parent, schedule}
 use Rattle.demands.specs.Demands.{Wrong, counts-above, more-down, bad-beat, wrong-length, no-form, no-form-on-sheet, no-form-in-record, cut-record}
-use Rattle.demands.proofs.Calls.{verdict-answer, verdict-told}
+use Rattle.demands.proofs.Calls.{verdict-told}
 
 pub taken : (v : Verdict) (n : ℕ) → Verdict.Accepted ≡ verdict (answer v n) → v ≡ Verdict.Accepted
 taken v n e = sym (e ∙ verdict-answer v n)

@@ -13,6 +13,7 @@ use Rattle.refusal.specs.declared.Refusal.{Refusal}
 use Rattle.refusal.specs.declared.Verdict.{Verdict}
 use Rattle.refusal.specs.Answer.{answer, verdict, value}
 use Rattle.refusal.specs.Order.{judge}
+use Rattle.refusal.proofs.Theorems.{verdict-answer}
 use Rattle.counts.specs.Counts.{counting}
 use Rattle.schedule.specs.Check.{checked}
 use Rattle.circle.specs.Answers.{left, runRows, nextAnswer, runAnswer}
@@ -24,16 +25,12 @@ use Rattle.tree.proofs.Theorems.{treed-one}
 use Rattle.tree_back.specs.Back.{Untreed, found, none, unfit}
 use Rattle.tree_back.proofs.Theorems.{untreed-one}
 use Rattle.record.specs.Record.{recordOf, writeRows, writeAnswer, readRows}
-use Rattle.reading.specs.declared.Reading.{Reading}
+use Rattle.order.specs.declared.Reading.{Reading}
 use Rattle.reading.specs.Reading.{told, readAnswer}
-use Rattle.reading.specs.Reading as said
+use Rattle.order.specs.Parts as said
 use Rattle.demands.specs.Calls.{Call, count, check, next, changed, run, run-changed, number, form, form-on-sheet, tree, schedule-of-tree, read, write, lent, Says, Gives, silenced}
 
--- an answer and the verdict that it was made from
-pub verdict-answer : (v : Verdict) (n : ℕ) → verdict (answer v n) ≡ v
-verdict-answer Verdict.Accepted n = refl
-verdict-answer (Verdict.Refused why) n = refl
-
+-- a reading and the verdict that it was made from
 pub verdict-told : (v : Verdict) (t s n l : ℕ) → said.verdict (told t s n l v) ≡ v
 verdict-told Verdict.Accepted t s n l = refl
 verdict-told (Verdict.Refused why) t s n l = refl

@@ -22,7 +22,7 @@ use Rattle.tree.specs.Table.{Treed}
 use Rattle.tree_back.specs.Back.{Untreed}
 use Rattle.record.specs.Record.{ups, downs, writeAnswer, writeLeft}
 use Rattle.reading.specs.Reading.{readAnswer, readLeft}
-use Rattle.reading.specs.Reading as said
+use Rattle.order.specs.Parts as said
 
 pub data Call : Type 0 where
   count : (t s : ℕ) → Call

@@ -24,13 +24,14 @@ use lib.Seq.{drop-length}
 use Rattle.triangle.specs.Count.{N, largest}
 use Rattle.triangle.proofs.Count.{N-add, N-zero, N-over, N-pos}
 use Rattle.schedule.specs.Schedule.{ones, zeros}
-use Rattle.schedule.proofs.Hand.{Turned, start, down, up, ones-turn, zeros-turn, turned, unturned, schedule-plays, plays-schedule}
+use Rattle.schedule.proofs.Hand.{Turned, down, up, ones-turn, zeros-turn, turned, unturned, plays-schedule}
 use Rattle.circle.specs.Step.{top}
 use Rattle.circle.proofs.Shape.{ups, downs, shape-join, top-shape, turn-ups, turn-downs}
 use Rattle.circle.proofs.Rank.{raise, rank, rank-below}
 use Rattle.circle.proofs.Advance.{flat, flat-ones, flat-zeros, flat-rank}
-use Rattle.circle.proofs.Circle.{same-rank, top-schedule}
+use Rattle.circle.proofs.Circle.{same-rank}
 use Rattle.number.specs.Number.{formOf}
+use Rattle.number.proofs.Counting.{flat-turned}
 use Rattle.form.specs.Place.{placeOf, floorOf}
 use Rattle.number.proofs.Numbers.{form-schedule, form-rank}
 use Rattle.form.proofs.Filling.{written-at}
@@ -238,11 +239,6 @@ module _ {t s n : ℕ} {b : List ℕ} {i p k all low : ℕ} (u : Behind t s n b 
       → Behind t s n (set b (i - 1) (boolByte (not down))) (i - 1) (p - boolByte (not down)) (k - less) all′ low′
   behind-turn true e x el ea ew = behind-down (ltb-true k low e) (omega arith) (omega arith) ea (omega (arith, low-add))
   behind-turn false e x el ea ew = behind-up (ltb-false k low e) refl (omega arith) ea (ew ∙ x)
-
-flat-turned : (p q : ℕ) → q ≤ p → Turned (flat p q)
-flat-turned p q h =
-    rw (← turn-ups p (downs q []) [] ∙ turn-downs q [] (ups p []))
-    (turned 0 (ups p (downs q [])) [] (unfold ones zeros in refl) start (rw (top-shape p q) at (schedule-plays (top-schedule p q h))))
 
 module _ {t s n : ℕ} {b : List ℕ} {i p k all low : ℕ} (u : Behind t s n b i p k all low) (last : k ≡ all) where
   -- what is left stands for ones and then zeros

@@ -1,13 +1,13 @@
 -- The one number that a C function answers, from the verdict or the answer that it was given: rules that `search` chains.
 --     refusal-of, place-of, value-of, verdict-of     a part of what was given is that part of what it equals
---     answered                                       the verdict of an answer is the one that it was made by
---     refusal-before, place-before                   so the refusal and the place are known before there is a value
+--     refusal-before, place-before                   the refusal and the place are known before there is a value
 -- Assumes nothing.
-use mathlib.Core.Path.{_≡_, refl, _∙_, ap, sym}
+use mathlib.Core.Path.{_≡_, _∙_, ap, sym}
 use Prim.Native.Nat.{ℕ}
 use Rattle.refusal.specs.declared.Answer.{Answer}
 use Rattle.refusal.specs.declared.Verdict.{Verdict}
 use Rattle.refusal.specs.Answer.{refusal, place, verdict, value, answer}
+use Rattle.refusal.proofs.Theorems.{verdict-answer}
 
 pub refusal-of : (v w : Verdict) (r : ℕ) → r ≡ refusal v → v ≡ w → r ≡ refusal w
 refusal-of v w r e f = e ∙ ap refusal f
@@ -21,12 +21,8 @@ value-of a b r e f = e ∙ ap value f
 pub verdict-of : (a b : Answer) (v : Verdict) → v ≡ verdict a → a ≡ b → v ≡ verdict b
 verdict-of a b v e f = e ∙ ap verdict f
 
-pub answered : (v : Verdict) (n : ℕ) → verdict (answer v n) ≡ v
-answered Verdict.Accepted n = refl
-answered (Verdict.Refused why) n = refl
-
 pub refusal-before : (v : Verdict) (n r : ℕ) → r ≡ refusal v → r ≡ refusal (verdict (answer v n))
-refusal-before v n r e = e ∙ ap refusal (sym (answered v n))
+refusal-before v n r e = e ∙ ap refusal (sym (verdict-answer v n))
 
 pub place-before : (v : Verdict) (n r : ℕ) → r ≡ place v → r ≡ place (verdict (answer v n))
-place-before v n r e = e ∙ ap place (sym (answered v n))
+place-before v n r e = e ∙ ap place (sym (verdict-answer v n))

@@ -62,14 +62,14 @@ digits-some n =
       | no y ↦ omega (arith, length-more n (omega arith))
     ]
 
-pub digits-above : (k n : ℕ) → 10 ^ k ≤ n → k < length (decimal n)
+digits-above : (k n : ℕ) → 10 ^ k ≤ n → k < length (decimal n)
 digits-above zero n h = digits-some n
 digits-above (suc k) n h =
     let e = pow-suc 10 k in
     let l : 10 ≤ n = omega (arith, one-le-pow k 10 (omega arith)) in
     omega (arith, length-more n l, digits-above k (n / 10) (omega arith))
 
-pub digits-below : (k n : ℕ) → 1 ≤ k → n < 10 ^ k → length (decimal n) ≤ k
+digits-below : (k n : ℕ) → 1 ≤ k → n < 10 ^ k → length (decimal n) ≤ k
 digits-below zero n p h = absurd (omega arith)
 digits-below (suc zero) n p h = omega (arith, ap length (decimal-one n h))
 digits-below (suc (suc k)) n p h =

@@ -1,6 +1,7 @@
 -- The definitions of specs/ on small inputs: one inside, one outside. Assumes nothing.
 use mathlib.Core.List.{List, [], _∷_}
 use mathlib.Core.Path.{_≡_, refl}
+use Prim.Native.Nat.{zero, suc}
 use native.Mathlib.Omega.{arith}
 use Rattle.triangle.specs.Count.{N, counted}
 use Rattle.lookup.specs.Lent.{side, Counts}
@@ -9,7 +10,13 @@ use Rattle.lookup.specs.Lent.{side, Counts}
 side-33 : side ≡ 33
 side-33 = refl
 
--- an empty list of counts is right as far as it goes; one that begins with 2 is not
+-- the first two counts of row 0 are right as far as they go, and so is an empty list; one that begins with 2 is not
+counts-two : Counts (1 ∷ 0 ∷ [])
+unfolding counted N
+counts-two zero h = refl
+counts-two (suc zero) h = refl
+counts-two (suc (suc i)) h = absurd (omega arith)
+
 counts-empty : Counts []
 counts-empty = λ i h. absurd (omega arith)
 

@@ -31,5 +31,5 @@ pub fn look(counts: &[u64], t: u64, s: u64) -> u64
     if at < counts.len() {
         return counts[at];
     }
-    triangle::forms(t, s)
+    triangle::inside(t, s)
 }

@@ -202,7 +202,7 @@ flat-plays : (p q : ℕ) → q ≤ p → plays 0 (ups p (downs q [])) ≡ true
 unfolding plays
 flat-plays p q h = shape-plays p q (p - q) [] (omega arith)
 
-flat-turned : (p q : ℕ) → q ≤ p → Turned (flat p q)
+pub flat-turned : (p q : ℕ) → q ≤ p → Turned (flat p q)
 unfolding ones zeros
 flat-turned p q h =
     subst Turned (turn-ups p (downs q []) [] ∙ turn-downs q [] (ups p []))

@@ -55,7 +55,7 @@ rank-zeros zero r = refl
 rank-zeros (suc m) r = rank-zeros m (0 ∷ r)
 
 module _ {t s i : ℕ} {f : List ℕ} (p : Schedule t i f) (h : i ≤ s) where
-  pub ending-schedule : s ≤ suc t → i ≤ t → Schedule (suc t) s (ending s i f)
+  ending-schedule : s ≤ suc t → i ≤ t → Schedule (suc t) s (ending s i f)
   unfolding plays ones zeros
   ending-schedule k l =
       plays-schedule
@@ -63,7 +63,7 @@ module _ {t s i : ℕ} {f : List ℕ} (p : Schedule t i f) (h : i ≤ s) where
       (omega (arith, ones-append f (1 ∷ replicate (s - i) 0), ones-zeros (s - i), p .taken))
       (omega (arith, zeros-append f (1 ∷ replicate (s - i) 0), zeros-zeros (s - i), schedule-zeros p))
 
-  pub ending-rank : rankOf (ending s i f) ≡ raise (suc t) i (rankOf f)
+  ending-rank : rankOf (ending s i f) ≡ raise (suc t) i (rankOf f)
   unfolding rank ones zeros
   ending-rank =
       let back-ones : ones (reverse f) ≡ t = omega (arith, ones-turn f [], p .taken) in

@@ -22,10 +22,10 @@ use Rattle.counts.specs.Counts.{Allowed}
 use Rattle.schedule.specs.Schedule.{Schedule}
 use Rattle.circle.specs.Answers.{left}
 use Rattle.record.specs.Record.{long, kindIn, ups, downs, body, cut, meant, meantNumber, readRows, eaten}
-use Rattle.reading.specs.declared.Order.{Order}
-use Rattle.reading.specs.declared.Reading.{Reading}
+use Rattle.order.specs.declared.Order.{Order}
+use Rattle.order.specs.declared.Reading.{Reading}
 use Rattle.reading.specs.Reading.{told, leaving, readAnswer, readLeft}
-use Rattle.reading.specs.Reading as said
+use Rattle.order.specs.Parts as said
 use Rattle.reading.proofs.Heads.{whole-long}
 use Rattle.reading.proofs.Answering.{read-cut}
 use Rattle.reading.proofs.Meaning.{Means, read-means}

@@ -5,7 +5,7 @@ ghost use lib.ListN.{length};
 ghost use Rattle.triangle.specs.Count.{largest};
 ghost use Rattle.lookup.specs.Lent.{Counts};
 ghost use Rattle.packing.specs.Listed.{widest, Listed};
-use reading::Reading;
+use order::Reading;
 
 const BEATS: usize = 2 * triangle::LARGEST as usize;
 

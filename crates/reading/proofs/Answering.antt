@@ -21,7 +21,7 @@ use Rattle.number.specs.Answers.{numberRows}
 use Rattle.number.specs.Number.{numberOf, formOf}
 use Rattle.record.specs.Bytes.{valueOf, unpacked}
 use Rattle.record.specs.Record.{Kind, numbered, beaten, long, ups, downs, body, bodyRows, kindRows, headRows, readRows, kindIn, isUnknown, cut}
-use Rattle.reading.specs.declared.Reading.{Reading}
+use Rattle.order.specs.declared.Reading.{Reading}
 use Rattle.reading.specs.Reading.{told, reading, leaving}
 
 module _ (src : List ℕ) where

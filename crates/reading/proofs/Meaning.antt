@@ -89,7 +89,7 @@ module _ (src : List ℕ) where
     pub schedule : Schedule (ups src) (downs src) (meant k (ups src) (downs src) (body src))
     pub number : meantNumber k (ups src) (downs src) (body src) ≡ numberOf (ups src) (downs src) (meant k (ups src) (downs src) (body src))
 
-  pub kind-means : (k : Kind) → isUnknown k ≡ false → judge (kindRows k src) ≡ Verdict.Accepted → Means k
+  kind-means : (k : Kind) → isUnknown k ≡ false → judge (kindRows k src) ≡ Verdict.Accepted → Means k
   kind-means numbered u e =
       let f = numbered-facts e in
       record { allowed = f .1; schedule = form-schedule (f .1 .1) (valueOf (body src)); number = sym (form-number (f .1 .1) (valueOf (body src)) (f .2)) }

@@ -33,11 +33,11 @@ use Rattle.record.specs.Bytes.{lowFirst, valueOf, bytesFor, packed, unpacked, u
 use Rattle.record.specs.Record.{Kind, numbered, beaten, unknown, kindOf, isUnknown, payload, recordOf, long, kindIn, ups, downs, body, cut, bodyRows, kindRows, readRows, meant, meantNumber, roomRow, writeRows}
 use Rattle.record.proofs.Numerals.{Bytes, value-low, low-value, length-low}
 use Rattle.record.proofs.Packing.{all-beats}
-use Rattle.record.proofs.Writing.{record-size, write-kind}
-use Rattle.reading.specs.declared.Reading.{Reading}
+use Rattle.record.proofs.Writing.{record-size, write-kind, packed-size}
+use Rattle.order.specs.declared.Reading.{Reading}
 use Rattle.reading.specs.Reading.{reading, leaving, readAnswer, readLeft}
-use Rattle.reading.specs.Reading as said
-use Rattle.reading.proofs.Unpacking.{unpacked-packed, packed-unpacked, length-packed}
+use Rattle.order.specs.Parts as said
+use Rattle.reading.proofs.Unpacking.{unpacked-packed, packed-unpacked}
 use Rattle.reading.proofs.Heads.{cut-rest, whole-long}
 use Rattle.reading.proofs.Verdicts.{hand-checked, spoiled-not}
 use Rattle.reading.proofs.Answering.{numbered-fits, beaten-fits, read-kind}
@@ -57,7 +57,7 @@ module _ (kind t s : ℕ) (b rest : List ℕ) (a : Allowed t s) (q : Schedule t 
     where
       by : (k : Kind) → length (payload k t s b) ≤ 8
       by numbered = omega (arith, length-low 8 (numberOf t s b))
-      by beaten = omega (arith, length-packed b, q .size, a .0, a .1)
+      by beaten = omega (arith, packed-size b, q .size, a .0, a .1)
       by unknown = omega arith
 
   module _ (few : kind < 65536) where
@@ -136,7 +136,7 @@ module _ (t s : ℕ) (b rest : List ℕ) (a : Allowed t s) (q : Schedule t s b) 
     body-two = body-is 2 t s b rest a q (omega arith)
 
     exact : long two ≡ 4 + bytesFor (t + s)
-    exact = second .0 ∙ ap (λ (j : ℕ). 4 + j) (length-packed b ∙ ap bytesFor (q .size))
+    exact = second .0 ∙ ap (λ (j : ℕ). 4 + j) (packed-size b ∙ ap bytesFor (q .size))
 
     clean : unused (t + s) (packed b) ≡ 0
     clean = ap (λ (j : ℕ). unused j (packed b)) (sym (q .size)) ∙ unused-packed b

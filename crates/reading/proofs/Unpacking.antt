@@ -1,7 +1,6 @@
 -- Packing and unpacking undo each other.
 --     unpacked-packed     beats that are packed are unpacked again
 --     packed-unpacked     bytes whose unused bits are 0 are what packing their beats gives
---     length-packed       the whole bytes that the beats need
 -- Assumes nothing.
 use mathlib.Core.List.{List}
 use mathlib.Core.Path.{_≡_, refl, sym, _∙_, ap, ap₂}
@@ -12,6 +11,7 @@ use native.Mathlib.Omega.{arith}
 use lib.ListN.{length, getD, drop, List·getD-eq-default}
 use lib.Seq.{ext-getD, getD-drop}
 use Rattle.record.specs.Bytes.{spell, bytesFor, packed, beatAt, unpacked, unused, tabulate}
+use Rattle.record.proofs.Writing.{packed-size}
 use Rattle.record.proofs.Packing.{length-tabulate, getD-tabulate, shift-bit, shift-on, shift-left}
 
 -- the bit at r of the byte that eight beats spell
@@ -50,9 +50,6 @@ bits-part c v h f (suc k) l =
 
 bits-spell : (c : List ℕ) (v : ℕ) → v < 256 → ((r : ℕ) → r < 8 → getD c r 0 ≡ v / 2 ^ (7 - r) % 2) → spell 8 c ≡ v
 bits-spell c v h f = bits-part c v h f 8 (omega arith) ∙ div-one v
-
-pub length-packed : (b : List ℕ) → length (packed b) ≡ bytesFor (length b)
-length-packed b = length-tabulate (bytesFor (length b)) (λ j. spell 8 (drop (8 * j) b))
 
 pub unpacked-packed : (b : List ℕ) → ((i : ℕ) → getD b i 0 ≤ 1) → unpacked (length b) (packed b) ≡ b
 unpacked-packed b f = ext-getD 0 (unpacked (length b) (packed b)) b (length-tabulate (length b) (beatAt (packed b))) each
@@ -111,9 +108,9 @@ module _ (n : ℕ) (p : List ℕ) (long : length p ≡ bytesFor n) (bytes : (i :
   packed-unpacked = ext-getD 0 (packed (unpacked n p)) p (size ∙ sym long) each
     where
       size : length (packed (unpacked n p)) ≡ bytesFor n
-      size = length-packed (unpacked n p) ∙ ap bytesFor (length-tabulate n (beatAt p))
+      size = packed-size (unpacked n p) ∙ ap bytesFor (length-tabulate n (beatAt p))
 
       each : (j : ℕ) → j < length (packed (unpacked n p)) → getD (packed (unpacked n p)) j 0 ≡ getD p j 0
       each j h =
-          getD-tabulate (bytesFor (length (unpacked n p))) (λ i. spell 8 (drop (8 * i) (unpacked n p))) j (omega (arith, length-packed (unpacked n p)))
+          getD-tabulate (bytesFor (length (unpacked n p))) (λ i. spell 8 (drop (8 * i) (unpacked n p))) j (omega (arith, packed-size (unpacked n p)))
           ∙ bits-spell (drop (8 * j) (unpacked n p)) (getD p j 0) (bytes j) (λ r k. bit j r (omega (arith, size)) k)

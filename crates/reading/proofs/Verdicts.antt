@@ -30,7 +30,7 @@ use Rattle.number.proofs.Verdicts.{form-refused, form-taken}
 use Rattle.record.specs.Bytes.{bytesFor, beatAt, unpacked, unused}
 use Rattle.record.specs.Record.{Kind, beaten, spoiled, bodyRows, eaten}
 use Rattle.record.proofs.Packing.{length-tabulate, getD-tabulate}
-use Rattle.reading.specs.declared.Reading.{Reading}
+use Rattle.order.specs.declared.Reading.{Reading}
 use Rattle.reading.specs.Reading.{told}
 
 -- what holds of every reason of an order holds of the one that it gives

@@ -4,7 +4,7 @@
 --     leaving          what the lent slice holds afterwards: the schedule, and behind it what was there; refused, what was there
 --     readAnswer, readLeft     the same of a slice that starts at a record
 --     Whole            what is known before the kind is looked at
---     verdict, t, s, number, consumed     the parts of an answer: after a refusal every number but the bytes consumed is 0 [R22]
+--     The parts of an answer are in specs/Parts of the crate `order`.
 use mathlib.Core.Bool.{false}
 use mathlib.Core.List.{List, _++_}
 use mathlib.Core.Path.{_≡_}
@@ -15,8 +15,8 @@ use Rattle.refusal.specs.Order.{judge}
 use Rattle.triangle.specs.Count.{largest}
 use Rattle.circle.specs.Answers.{left}
 use Rattle.record.specs.Record.{Kind, long, kindIn, ups, downs, body, cut, meant, meantNumber, readRows, eaten}
-use Rattle.reading.specs.declared.Order.{Order}
-use Rattle.reading.specs.declared.Reading.{Reading}
+use Rattle.order.specs.declared.Order.{Order}
+use Rattle.order.specs.declared.Reading.{Reading}
 
 abbrev pub told : ℕ → ℕ → ℕ → ℕ → Verdict → Reading
 told t s n l Verdict.Accepted = Reading.Order (record { t = t; s = s; number = n; consumed = 2 + l })
@@ -40,23 +40,3 @@ pub record Whole (src : List ℕ) (l : ℕ) (out : List ℕ) : Type 0 where
   pub here : cut src ≡ false
   pub kind : 2 ≤ l
   pub room : largest + largest ≤ length out
-
-abbrev pub verdict : Reading → Verdict
-verdict (Reading.Order o) = Verdict.Accepted
-verdict (Reading.Refused why n) = Verdict.Refused why
-
-abbrev pub t : Reading → ℕ
-t (Reading.Order o) = o .t
-t (Reading.Refused why n) = 0
-
-abbrev pub s : Reading → ℕ
-s (Reading.Order o) = o .s
-s (Reading.Refused why n) = 0
-
-abbrev pub number : Reading → ℕ
-number (Reading.Order o) = o .number
-number (Reading.Refused why n) = 0
-
-abbrev pub consumed : Reading → ℕ
-consumed (Reading.Order o) = o .consumed
-consumed (Reading.Refused why n) = n

@@ -4,73 +4,11 @@
 ghost use mathlib.Core.Path.{_≡_};
 ghost use Rattle.lookup.specs.Lent.{Counts};
 ghost use Rattle.reading.specs.Reading.{readAnswer, readLeft};
-ghost use Rattle.reading.specs.Reading as said;
+use order::Reading;
 use refusal::Refusal;
-use refusal::Verdict;
 
 mod reads;
 
-// What a record says: the counts and the number of its form, and how many bytes it takes.
-pub struct Order {
-    pub t: u64,
-    pub s: u64,
-    pub number: u64,
-    pub consumed: u64,
-}
-
-// The answer of reading a record: what it says; or why it is refused, and how many bytes to pass over.
-pub enum Reading {
-    Order(Order),
-    Refused(Refusal, u64),
-}
-
-impl Reading {
-    pub fn verdict(self) -> Verdict
-        ensures { λ r. ⌜ r ≡ said.verdict self ⌝ }
-    {
-        match self {
-            Reading::Order(_) => Verdict::Accepted,
-            Reading::Refused(why, _) => Verdict::Refused(why),
-        }
-    }
-
-    pub fn t(self) -> u64
-        ensures { λ r. ⌜ r ≡ said.t self ⌝ }
-    {
-        match self {
-            Reading::Order(order) => order.t,
-            Reading::Refused(_, _) => 0,
-        }
-    }
-
-    pub fn s(self) -> u64
-        ensures { λ r. ⌜ r ≡ said.s self ⌝ }
-    {
-        match self {
-            Reading::Order(order) => order.s,
-            Reading::Refused(_, _) => 0,
-        }
-    }
-
-    pub fn number(self) -> u64
-        ensures { λ r. ⌜ r ≡ said.number self ⌝ }
-    {
-        match self {
-            Reading::Order(order) => order.number,
-            Reading::Refused(_, _) => 0,
-        }
-    }
-
-    // The bytes that the record takes, refused or not; 0 after 9 and after 12.
-    pub fn consumed(self) -> u64
-        ensures { λ r. ⌜ r ≡ said.consumed self ⌝ }
-    {
-        match self {
-            Reading::Order(order) => order.consumed,
-            Reading::Refused(_, bytes) => bytes,
-        }
-    }
-}
 // Reads the record that a slice starts with, and writes its schedule into the first t+s places of the lent
 // slice, leaving the others. Refuses 12, 9, 11 (L below 2), 10, 11 (L wrong for the kind), 1, 2, then 7, or 11
 // (kind 2's exact L and unused bits), 5, 6; a refusal changes nothing. [W2]

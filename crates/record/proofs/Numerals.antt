@@ -18,7 +18,7 @@ use Rattle.record.specs.Bytes.{lowFirst, valueOf}
 abbrev pub Bytes : List ℕ → Type 0
 Bytes l = (i : ℕ) → getD l i 0 < 256
 
-pub value-below : (l : List ℕ) → Bytes l → valueOf l < 256 ^ length l
+value-below : (l : List ℕ) → Bytes l → valueOf l < 256 ^ length l
 unfolding valueOf
 value-below [] f = omega arith
 value-below (x ∷ l) f = omega (arith, value-below l (λ i. f (suc i)), f 0, pow-suc 256 (length l))

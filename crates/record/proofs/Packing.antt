@@ -64,11 +64,11 @@ filled-all {f} {n} {at} {out} u h =
     sym (take-all at out h) ∙ u .so-far ∙ ap (λ (j : ℕ). tabulate j f) all
 
 -- a byte, spelled beat by beat
-pub spell-more : (c : List ℕ) (k : ℕ) → spell (k + 1) c ≡ 2 * spell k c + getD c k 0
+spell-more : (c : List ℕ) (k : ℕ) → spell (k + 1) c ≡ 2 * spell k c + getD c k 0
 unfolding spell
 spell-more c k = rw (add-one k)
 
-pub spell-below : (c : List ℕ) (k : ℕ) → ((i : ℕ) → getD c i 0 ≤ 1) → spell k c < 2 ^ k
+spell-below : (c : List ℕ) (k : ℕ) → ((i : ℕ) → getD c i 0 ≤ 1) → spell k c < 2 ^ k
 unfolding spell
 spell-below c zero f = omega arith
 spell-below c (suc k) f = omega (arith, spell-below c k f, f k)

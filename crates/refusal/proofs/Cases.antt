@@ -9,7 +9,7 @@ use Rattle.refusal.specs.declared.Refusal.the-variants.{TooManyTasks, Mo
 use Rattle.refusal.specs.declared.Verdict.{Verdict}
 use Rattle.refusal.specs.Refusal.{numberOf, placeOf}
 use Rattle.refusal.specs.Answer.{refusal, place, verdict, value, answer}
-use Rattle.refusal.specs.Order.{Row, _⇒_, judge, test, reason}
+use Rattle.refusal.specs.Order.{Row, _⇒_, judge, test}
 use Rattle.refusal.proofs.Theorems.{Given, refused-given, given-refused}
 
 -- the first and the last row of the table; a place that is a beat, and one that is not
@@ -57,18 +57,12 @@ accepted-answer = refl
 refused-answer : answer (Verdict.Refused WrongLength) 7 ≡ Answer.Refused WrongLength
 refused-answer = refl
 
--- a row that holds and one that does not, and two reasons
+-- a row that holds and one that does not
 row-holds : test (true ⇒ TooManyTasks) ≡ true
 row-holds = refl
 
 row-fails : test (false ⇒ TooManyTasks) ≡ false
 row-fails = refl
-
-reason-1 : reason (true ⇒ TooManyTasks) ≡ TooManyTasks
-reason-1 = refl
-
-reason-2 : reason (true ⇒ MoreDownThanUp) ≡ MoreDownThanUp
-reason-2 = refl
 
 -- the first row that holds refuses; where none does, the call is accepted
 abbrev rows : List Row

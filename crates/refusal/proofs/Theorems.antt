@@ -5,6 +5,7 @@
 --     refused-number      a refusal's number is 1 to 13, so 0 is left for an accepted call
 --     accepted-zero       a verdict answers 0 exactly if it accepts
 --     same-refusal        number and place say which refusal it is [R2]
+--     verdict-answer      an answer has the verdict that it was made from
 -- Assumes nothing.
 use mathlib.Core.Bool.{true, false, true≢false}
 use mathlib.Core.List.{List, [], _∷_, _++_, List·Memᴰ, List·Memᴰ·head, List·Memᴰ·tail, List·Memᴰ·cases-cons, List·Memᴰ·not-nil}
@@ -17,7 +18,7 @@ use Rattle.refusal.specs.declared.Refusal.{Refusal}
 use Rattle.refusal.specs.declared.Refusal.the-variants.{TooManyTasks, MoreDownThanUp, WrongLength, BadBeat, EmptyHand, WrongTakeUps, NoSuchNumber, NoSuchTables, CutShort, UnknownKind, WrongSize, NoRoom, RunTooLong}
 use Rattle.refusal.specs.declared.Verdict.{Verdict}
 use Rattle.refusal.specs.Refusal.{numberOf, placeOf}
-use Rattle.refusal.specs.Answer.{refusal}
+use Rattle.refusal.specs.Answer.{refusal, verdict, answer}
 use Rattle.refusal.specs.Order.{Row, _⇒_, judge, test}
 
 pub record Given (l : List Row) (why : Refusal) : Type 0 where
@@ -91,3 +92,7 @@ same-refusal p q n a = sym (named-back p .0) ∙ ap₂ named n a ∙ named-back 
 pub accepted-zero : (v : Verdict) → refusal v ≡ 0 → v ≡ Verdict.Accepted
 accepted-zero Verdict.Accepted e = refl
 accepted-zero (Verdict.Refused why) e = absurd (omega (arith, named-back why .1))
+
+pub verdict-answer : (v : Verdict) (n : ℕ) → verdict (answer v n) ≡ v
+verdict-answer Verdict.Accepted n = refl
+verdict-answer (Verdict.Refused why) n = refl

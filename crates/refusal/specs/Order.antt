@@ -1,7 +1,7 @@
 -- The order of refusals, document 01, "Refusal numbers". Definitions only.
 --     holds ⇒ why     a row of an order: where the test holds, the call is refused so
 --     judge           the verdict of an order: the first row whose test holds refuses; where none does, the call is accepted
---     test, reason    the two parts of a row
+--     test            the test of a row
 use mathlib.Core.Bool.{Bool, true, false}
 use mathlib.Core.List.{List, [], _∷_}
 use Rattle.refusal.specs.declared.Refusal.{Refusal}
@@ -18,6 +18,3 @@ judge ((false ⇒ why) ∷ rows) = judge rows
 
 abbrev pub test : Row → Bool
 test (holds ⇒ why) = holds
-
-abbrev pub reason : Row → Refusal
-reason (holds ⇒ why) = why

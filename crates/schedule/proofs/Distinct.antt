@@ -1,7 +1,6 @@
 -- Lists of all that P holds of, each once, by membership; and the part of such a list that a test keeps.
 --     Distinct                    no member stands twice
 --     distinct-lists              distinct members that are all that P holds of are a list of all, each once
---     lists-distinct, lists-mem, mem-lists     and the other way about
 --     keep f l, tally f l         the members of l that pass the test f, and how many they are
 --     keep-mem, mem-keep, keep-distinct     what is kept
 -- Assumes nothing.
@@ -41,26 +40,10 @@ distinct-once (more {l = l} n d) zero (suc j) h k e = absurd (n (mem-as e (place
 distinct-once (more {l = l} n d) (suc i) zero h k e = absurd (n (mem-as (sym e) (place-mem l i (omega arith))))
 distinct-once (more n d) (suc i) (suc j) h k e = ap suc (distinct-once d i j (omega arith) (omega arith) e)
 
-once-distinct : (l : List (List ℕ)) → ((i j : ℕ) → i < length l → j < length l → getD l i [] ≡ getD l j [] → i ≡ j) → Distinct l
-once-distinct [] f = nothing
-once-distinct (x ∷ l) f =
-    more (λ (m : List·Memᴰ x l). let found = mem-place l m in omega (arith, f 0 (suc (found .0)) (omega arith) (omega (arith, found .1)) (sym (found .2))))
-    (once-distinct l (λ i j h k e. omega (arith, f (suc i) (suc j) (omega arith) (omega arith) e)))
-
 module _ (P : List ℕ → Type 0) where
   pub distinct-lists : (l : List (List ℕ)) → Distinct l → ((x : List ℕ) → List·Memᴰ x l → P x) → ((x : List ℕ) → P x → List·Memᴰ x l) → Lists P l
   distinct-lists l d f g =
       record { sound = λ i h. f (getD l i []) (place-mem l i h); complete = λ x p. mem-place l (g x p); once = distinct-once d }
-
-  module _ (l : List (List ℕ)) (p : Lists P l) where
-    pub lists-distinct : Distinct l
-    lists-distinct = once-distinct l (p .once)
-
-    pub lists-mem : (x : List ℕ) → List·Memᴰ x l → P x
-    lists-mem x m = let found = mem-place l m in subst P (found .2) (p .sound (found .0) (found .1))
-
-    pub mem-lists : (x : List ℕ) → P x → List·Memᴰ x l
-    mem-lists x q = let found = p .complete x q in mem-as (sym (found .2)) (place-mem l (found .0) (found .1))
 
 unfoldable pub keep : (List ℕ → Bool) → List (List ℕ) → List (List ℕ)
 keep f [] = []

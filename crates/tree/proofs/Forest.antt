@@ -15,7 +15,8 @@ use lib.Seq.{set-append-seam}
 use Rattle.schedule.specs.Schedule.{ones, zeros}
 use Rattle.tree.specs.Tree.{Tree, leaf, node, size, word, root, lefts, rights, parents}
 use Rattle.tree.specs.Planting.{adopted}
-use Rattle.tree.proofs.Word.{ones-join, zeros-join, ones-word, zeros-word}
+use Rattle.schedule.proofs.Tally.{ones-append, zeros-append}
+use Rattle.tree.proofs.Word.{ones-word, zeros-word}
 
 unfoldable pub each : (ℕ → Tree → List ℕ) → ℕ → List Tree → List ℕ
 each f k [] = []
@@ -36,12 +37,12 @@ pub forest-count : (ts : List Tree) → length ts + ones (words ts) ≡ zeros (w
 unfolding words ones zeros
 forest-count [] = omega arith
 forest-count (t ∷ ts) =
-    omega (arith, ones-join (word t) (words ts), zeros-join (word t) (words ts), ones-word t, zeros-word t, forest-count ts)
+    omega (arith, ones-append (word t) (words ts), zeros-append (word t) (words ts), ones-word t, zeros-word t, forest-count ts)
 
 pub forest-ones : (ts : List Tree) → ones (words ts) ≡ sizes ts
 unfolding words sizes ones
 forest-ones [] = refl
-forest-ones (t ∷ ts) = omega (arith, ones-join (word t) (words ts), ones-word t, forest-ones ts)
+forest-ones (t ∷ ts) = omega (arith, ones-append (word t) (words ts), ones-word t, forest-ones ts)
 
 module _ (k : ℕ) (ts : List Tree) where
   pub each-leaf : (f : ℕ → Tree → List ℕ) → each f (k + size leaf) ts ≡ each f k ts

@@ -18,7 +18,7 @@ use Rattle.schedule.proofs.Hand.{schedule-zeros}
 use Rattle.tree.specs.Tree.{Tree, leaf, node, size, word, root, lefts, rights, parents}
 use Rattle.tree.specs.Planting.{adopted}
 use Rattle.tree.specs.Table.{Has}
-use Rattle.tree.proofs.Word.{ones-join, zeros-join}
+use Rattle.schedule.proofs.Tally.{ones-append, zeros-append}
 use Rattle.tree.proofs.Forest.{each, rootList, words, sizes, forest-count, forest-ones, each-leaf, root-node, left-node, right-node, parent-node, adopt-at, length-parents}
 
 -- the top of a stack
@@ -28,7 +28,7 @@ pop st d h = rw (take-suc st d 0) (reverse-append (take d st) (getD st d 0 ∷ [
 pub push : (st : List ℕ) (d v : ℕ) → d < length st → reverse (take (suc d) (set st d v)) ≡ v ∷ reverse (take d st)
 push st d v h = rw (take-suc-set st d v) (reverse-append (take d st) (v ∷ []))
 
-pub length-adopted : (c v : ℕ) (p : List ℕ) → length (adopted c v p) ≡ length p
+length-adopted : (c v : ℕ) (p : List ℕ) → length (adopted c v p) ≡ length p
 length-adopted zero v p = refl
 length-adopted (suc c) v p = length-set p c v
 
@@ -54,11 +54,11 @@ pub record Planted (b : List ℕ) (n at k d : ℕ) (st l r p : List ℕ) : Type 
   pub parent : drop k p ≡ each (parents 0) (suc k) trees
 
 -- the counts of a list, cut in two
-pub ones-cut : (b : List ℕ) (j : ℕ) → ones (take j b) + ones (drop j b) ≡ ones b
-ones-cut b j = sym (ones-join (take j b) (drop j b)) ∙ ap ones (take-append-drop j b)
+ones-cut : (b : List ℕ) (j : ℕ) → ones (take j b) + ones (drop j b) ≡ ones b
+ones-cut b j = sym (ones-append (take j b) (drop j b)) ∙ ap ones (take-append-drop j b)
 
-pub zeros-cut : (b : List ℕ) (j : ℕ) → zeros (take j b) + zeros (drop j b) ≡ zeros b
-zeros-cut b j = sym (zeros-join (take j b) (drop j b)) ∙ ap zeros (take-append-drop j b)
+zeros-cut : (b : List ℕ) (j : ℕ) → zeros (take j b) + zeros (drop j b) ≡ zeros b
+zeros-cut b j = sym (zeros-append (take j b) (drop j b)) ∙ ap zeros (take-append-drop j b)
 
 pub planted-start : (b : List ℕ) (n : ℕ) (st l r p : List ℕ) → n < length st → getD st 0 0 ≡ 0
     → length l ≡ n → length r ≡ n → length p ≡ n → Planted b n (length b) n 1 st l r p
@@ -90,13 +90,13 @@ module _ {b : List ℕ} {n at k d : ℕ} {st l r p : List ℕ} (q : Schedule n n
         forest-count (u .trees),
         ap ones (u .behind),
         ap zeros (u .behind),
-        ones-join (drop at b) (0 ∷ []),
-        zeros-join (drop at b) (0 ∷ []),
+        ones-append (drop at b) (0 ∷ []),
+        zeros-append (drop at b) (0 ∷ []),
       )
 
   left-over : k + ones (drop at b) ≡ n
   unfolding ones
-  left-over = omega (arith, u .nodes, forest-ones (u .trees), ap ones (u .behind), ones-join (drop at b) (0 ∷ []))
+  left-over = omega (arith, u .nodes, forest-ones (u .trees), ap ones (u .behind), ones-append (drop at b) (0 ∷ []))
 
   module _ (before : ℕ) (e : at ≡ suc before) where
     here : drop before b ≡ getD b before 0 ∷ drop at b

@@ -20,13 +20,14 @@ use Rattle.schedule.specs.Check.{playRows}
 use Rattle.schedule.proofs.Theorems.{accepted-schedule, schedule-accepted}
 use Rattle.tree.specs.Tree.{Tree, size, word, lefts, rights, parents}
 use Rattle.tree.specs.Table.{Has, lentRows, treeRows, Treed, filled, kept}
-use Rattle.tree.proofs.Word.{ones-join, ones-word, word-front, front, front-schedule, front-unique, treeOf, word-tree, one-tree}
+use Rattle.schedule.proofs.Tally.{ones-append}
+use Rattle.tree.proofs.Word.{ones-word, word-front, front, front-schedule, front-unique, treeOf, word-tree, one-tree}
 use Rattle.tree.proofs.Sizes.{sizes-right, fitting-sizes, tree-checked}
 
 -- a tree whose word is b with one leaf more has as many nodes as b has ones
 size-ones : (t : Tree) (b : List ℕ) → b ++ 0 ∷ [] ≡ word t → size t ≡ ones b
 unfolding ones
-size-ones t b e = omega (arith, ones-word t, ap ones e, ones-join b (0 ∷ []))
+size-ones t b e = omega (arith, ones-word t, ap ones e, ones-append b (0 ∷ []))
 
 pub closed-tree : {n : ℕ} {b : List ℕ} → Schedule n n b
     → (t : Tree) × (size t ≡ n) × (b ++ 0 ∷ [] ≡ word t) × ((s : Tree) → b ++ 0 ∷ [] ≡ word s → s ≡ t)

@@ -12,31 +12,19 @@ use Prim.Native.Nat.{ℕ, zero, suc, _+_}
 use native.Mathlib.Omega.{arith}
 use lib.ListN.{length, length-append}
 use Rattle.schedule.specs.Schedule.{ones, zeros, Schedule}
+use Rattle.schedule.proofs.Tally.{ones-append, zeros-append}
 use Rattle.schedule.proofs.Hand.{plays, schedule-plays, schedule-zeros, plays-schedule}
 use Rattle.tree.specs.Tree.{Tree, leaf, node, size, word}
-
-pub ones-join : (b c : List ℕ) → ones (b ++ c) ≡ ones b + ones c
-unfolding ones
-ones-join [] c = omega arith
-ones-join (zero ∷ b) c = ones-join b c
-ones-join (suc zero ∷ b) c = omega (arith, ones-join b c)
-ones-join (suc (suc x) ∷ b) c = ones-join b c
-
-pub zeros-join : (b c : List ℕ) → zeros (b ++ c) ≡ zeros b + zeros c
-unfolding zeros
-zeros-join [] c = omega arith
-zeros-join (zero ∷ b) c = omega (arith, zeros-join b c)
-zeros-join (suc x ∷ b) c = zeros-join b c
 
 pub ones-word : (t : Tree) → ones (word t) ≡ size t
 unfolding word size ones
 ones-word leaf = refl
-ones-word (node a b) = omega (arith, ones-join (word a) (word b), ones-word a, ones-word b)
+ones-word (node a b) = omega (arith, ones-append (word a) (word b), ones-word a, ones-word b)
 
 pub zeros-word : (t : Tree) → zeros (word t) ≡ suc (size t)
 unfolding word size zeros
 zeros-word leaf = refl
-zeros-word (node a b) = omega (arith, zeros-join (word a) (word b), zeros-word a, zeros-word b)
+zeros-word (node a b) = omega (arith, zeros-append (word a) (word b), zeros-word a, zeros-word b)
 
 unfoldable pub front : Tree → List ℕ
 front leaf = []
@@ -65,8 +53,8 @@ unfolding ones zeros plays
 front-schedule t =
     plays-schedule
     (ap (plays 0) (sym (append-nil (front t))) ∙ front-plays t 0 [])
-    (omega (arith, ones-word t, ap ones (word-front t), ones-join (front t) (0 ∷ [])))
-    (omega (arith, zeros-word t, ap zeros (word-front t), zeros-join (front t) (0 ∷ [])))
+    (omega (arith, ones-word t, ap ones (word-front t), ones-append (front t) (0 ∷ [])))
+    (omega (arith, zeros-word t, ap zeros (word-front t), zeros-append (front t) (0 ∷ [])))
 
 -- the trees whose words, one behind the other, make the list
 unfoldable grow : List Tree → List Tree

@@ -79,7 +79,7 @@ rows l k n m u v h e f =
     ∙ ap (λ (c : List ℕ). getD l k 0 ∷ c)
     (take-add n m (drop (suc k) l) ∙ ap₂ (λ (c d : List ℕ). c ++ d) e (ap (take m) (drop-drop n (suc k) l) ∙ f))
 
-pub read-root : {l r p : List ℕ} {own k c : ℕ} {t : Tree} → Reads l r p own k c t → c ≡ root (suc k) t
+read-root : {l r p : List ℕ} {own k c : ℕ} {t : Tree} → Reads l r p own k c t → c ≡ root (suc k) t
 unfolding root
 read-root none = refl
 read-root (some e x y) = refl

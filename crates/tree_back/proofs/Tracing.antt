@@ -27,7 +27,8 @@ use Rattle.schedule.specs.Schedule.{ones, zeros}
 use Rattle.tree.specs.Tree.{Tree, leaf, node, size, word, root, rights, parents}
 use Rattle.tree_back.specs.Tracing.{rootNumber, isNext, Traced, whole, broken}
 use Rattle.tree.specs.Table.{Has}
-use Rattle.tree.proofs.Word.{ones-join, ones-word}
+use Rattle.schedule.proofs.Tally.{ones-append}
+use Rattle.tree.proofs.Word.{ones-word}
 use Rattle.tree.proofs.Forest.{words}
 use Rattle.tree.proofs.Planted.{pop, push}
 use Rattle.tree_back.proofs.Reading.{Reads, none, tables-read, read-tables, entry, Rest, last, more, rest-pop, rest-last, rest-open, rest-close}
@@ -99,11 +100,11 @@ ones-more buf at v h = ap ones (take-suc-set buf at v h)
 
 zero-more : (b : List ℕ) → ones (b ++ 0 ∷ []) ≡ ones b
 unfolding ones
-zero-more b = omega (arith, ones-join b (0 ∷ []))
+zero-more b = omega (arith, ones-append b (0 ∷ []))
 
 one-more : (b : List ℕ) → ones (b ++ 1 ∷ []) ≡ suc (ones b)
 unfolding ones
-one-more b = omega (arith, ones-join b (1 ∷ []))
+one-more b = omega (arith, ones-append b (1 ∷ []))
 
 longer : (buf : List ℕ) (at v : ℕ) (w : List ℕ) → at < length buf → take (suc at) (set buf at v) ++ w ≡ take at buf ++ (v ∷ w)
 longer buf at v w h = rw (take-suc-set buf at v) (append-assoc (take at buf) (v ∷ []) w)
@@ -241,7 +242,7 @@ module _ {n : ℕ} {l r p : List ℕ} {at k own c d : ℕ} {st buf : List ℕ} (
       short : (t : Tree) → (ts : List Tree) × Rest l r p own k c (reverse (take d st)) ts × (word t ≡ take at buf ++ words ts) → size t ≡ n → ⊥
       short t g m =
           let w : word t ≡ take at buf ++ 0 ∷ [] = g .2 ∙ ap (λ (w : List ℕ). take at buf ++ w) (rest-last l r p (g .1) z (ap (λ (j : ℕ). reverse (take j st)) e)) in
-          omega (arith, u .deep, ones-word t, ap ones w, ones-join (take at buf) (0 ∷ []), u .counted)
+          omega (arith, u .deep, ones-word t, ap ones w, ones-append (take at buf) (0 ∷ []), u .counted)
 
   -- a node in the slot is one more than were met
   beyond : ((c ≡ 0) → ⊥) → (t : Tree) → Reads l r p 0 0 (rootNumber n) t → size t ≡ n → (k < n) × (c ≡ suc k) × (getD p k 0 ≡ own)
@@ -250,7 +251,7 @@ module _ {n : ℕ} {l r p : List ℕ} {at k own c d : ℕ} {st buf : List ℕ} (
       let g = u .complete t q in
       let f = rest-open l r p (g .1) z in
       let w : word t ≡ take at buf ++ 1 ∷ words (f .trees) = g .2 ∙ ap (λ (w : List ℕ). take at buf ++ w) (f .beats) in
-      (omega (arith, u .counted, ones-word t, ap ones w, ones-join (take at buf) (1 ∷ words (f .trees))), f .next, f .parent)
+      (omega (arith, u .counted, ones-word t, ap ones w, ones-append (take at buf) (1 ∷ words (f .trees))), f .next, f .parent)
 
   pub trace-other : ((c ≡ 0) → ⊥) → ((k < n) × (c ≡ suc k) × (getD p k 0 ≡ own) → ⊥) → (b : List ℕ) → Has n b l r p → ⊥
   trace-other z f = none-has n l r p (λ t q m. f (beyond z t q m))
@@ -270,7 +271,7 @@ module _ {n : ℕ} {l r p : List ℕ} {at k own c d : ℕ} {st buf : List ℕ} (
         (subst (λ (j : ℕ). Rest l r p own k j [] (leaf ∷ [])) (sym z) (last none)) in
         let g = u .sound (leaf ∷ []) rest in
         let w : word (g .tree) ≡ buf ++ 0 ∷ [] = g .beats ∙ ap (λ (v : List ℕ). v ++ 0 ∷ []) (take-all at buf (omega (arith, u .long))) in
-        let m : size (g .tree) ≡ n = omega (arith, ones-word (g .tree), ap ones (g .beats), ones-join (take at buf) (0 ∷ []), u .counted, met .0) in
+        let m : size (g .tree) ≡ n = omega (arith, ones-word (g .tree), ap ones (g .beats), ones-append (take at buf) (0 ∷ []), u .counted, met .0) in
         let f = read-tables l r p (g .read) (hl ∙ sym m) (hr ∙ sym m) (hp ∙ sym m) in
         record { tree = g .tree; nodes = m; beats = sym w; left = f .0; right = f .1; parent = f .2 }
 

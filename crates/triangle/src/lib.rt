@@ -2,7 +2,8 @@
 // the table that holds them, and its look-up. A crate of its own, since its check takes the longest. The
 // contracts cite specs/Count.
 ghost use mathlib.Core.Path.{_≡_};
-ghost use Rattle.triangle.specs.Count.{counted};
+ghost use Prim.Native.Nat.{_≤_};
+ghost use Rattle.triangle.specs.Count.{N, largest, counted};
 
 mod table;
 
@@ -14,4 +15,12 @@ pub fn forms(t: u64, s: u64) -> u64
     ensures { λ r. ⌜ r ≡ counted t s ⌝ }
 {
     table::entry(t, s)
+}
+
+// The same of allowed counts, which it does not test.
+pub fn inside(t: u64, s: u64) -> u64
+    requires { ⌜ (t ≤ largest) × (s ≤ t) ⌝ }
+    ensures { λ r. ⌜ r ≡ N t s ⌝ }
+{
+    table::inside(t, s)
 }

@@ -1,8 +1,6 @@
 -- `lookup::look` meets its contract: the list has the count at its place, and else the table has it. Assumes nothing.
-use mathlib.Core.Path.{_∙_}
 use native.Mathlib.Omega.{arith}
 use borrow.Author.Needs.{needs}
-use Rattle.triangle.proofs.Count.{counted-N}
 use Rattle.lookup.proofs.Filling.{looked-up}
 use Rattle.lookup.proofs.look.Statement.{statement}
 use Rattle.lookup.proofs.look.Tie as tie
@@ -24,13 +22,11 @@ returns c =
     let start = c .before .before .before in
     looked-up (start .args .counts .now) (start .args .t) (start .args .s) (start .pre .0) (start .pre .1) (start .pre .2) (c .before .if1 .taken)
 
-forms-requires : tie.Need-forms-requires
-forms-requires c κs = search needs
+inside-requires : tie.Need-inside-requires
+inside-requires c κs = search needs
 
 returns-2 : tie.Need-returns-2
-returns-2 c =
-    let start = c .before .before .before in
-    c .forms .ensures ∙ counted-N (start .args .t) (start .args .s) (start .pre .1)
+returns-2 c = c .inside .ensures
 
 pub look-spec : {M : Type 1} → statement M
-look-spec = tie.close (tie.spec mul-at add-at mul-result shared-slice-read-result returns forms-requires returns-2)
+look-spec = tie.close (tie.spec mul-at add-at mul-result shared-slice-read-result returns inside-requires returns-2)

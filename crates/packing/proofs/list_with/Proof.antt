@@ -7,7 +7,7 @@ use lib.ListN.{length, take}
 use lib.Seq.{length-take-le}
 use Rattle.triangle.specs.Count.{largest}
 use Rattle.record.specs.Record.{kindIn, ups, downs, body, meant}
-use Rattle.reading.specs.declared.Order.{Order}
+use Rattle.order.specs.declared.Order.{Order}
 use Rattle.line.specs.Line.{Beats}
 use Rattle.packing.specs.Listed.{widest}
 use Rattle.packing.proofs.Listing.{Ordered, ordered, turned-down, list-accepted, list-refused}

@@ -7,7 +7,7 @@ use lib.ListN.{length, take, drop, length-drop}
 use lib.Seq.{length-take-le}
 use Rattle.refusal.specs.declared.Refusal.the-variants.{WrongSize}
 use Rattle.record.specs.Record.{long, body, longest}
-use Rattle.reading.specs.declared.Reading.{Reading}
+use Rattle.order.specs.declared.Reading.{Reading}
 use Rattle.reading.proofs.Heads.{whole-long}
 use Rattle.reading.proofs.Verdicts.{told-refused, left-refused}
 use Rattle.reading.proofs.Answering.{beaten-long, beaten-answer, beaten-left}

@@ -7,7 +7,7 @@ use lib.ListN.{length, take, drop}
 use Rattle.refusal.specs.declared.Refusal.the-variants.{WrongSize}
 use Rattle.record.specs.Bytes.{valueOf}
 use Rattle.record.specs.Record.{long, longest}
-use Rattle.reading.specs.declared.Reading.{Reading}
+use Rattle.order.specs.declared.Reading.{Reading}
 use Rattle.reading.proofs.Heads.{whole-long}
 use Rattle.reading.proofs.Verdicts.{told-refused, left-refused}
 use Rattle.reading.proofs.Answering.{numbered-long, numbered-answer, numbered-left}

@@ -1,9 +1,9 @@
 -- `Reading::verdict` meets its contract. Assumes nothing.
 use mathlib.Core.Path.{ap, sym}
-use Rattle.reading.specs.Reading as said
+use Rattle.order.specs.Parts as said
 use borrow.Author.Needs.{needs}
-use Rattle.reading.proofs.Reading.verdict.Statement.{statement}
-use Rattle.reading.proofs.Reading.verdict.Tie as tie
+use Rattle.order.proofs.Reading.verdict.Statement.{statement}
+use Rattle.order.proofs.Reading.verdict.Tie as tie
 
 enum-told : tie.Need-enum-told
 enum-told c = search needs
