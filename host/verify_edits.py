@@ -11,6 +11,7 @@ LOGS = ROOT / "target/must-fail"
 HEADING = re.compile(r"^## (\w+)$")
 ROW = re.compile(r"^\| `(\w+)` \|([^|]*)\|([^|]*)\|([^|]*)\|$")
 ERROR = re.compile(r"/(proofs|specs|src)/([^\s:]+)\.\w+:\d+:\d+: error: `([^`]+)`: (.*)")
+SHAPE = "that can be named from here"  # of a need which the edited code no longer has
 NO_PROOF = re.compile(r"^fn \w+::(\S+): no proof: .*`search` does not close `([^`]+)`", re.M)
 
 
@@ -19,7 +20,10 @@ def comment(path):
 
 
 def fact(log):
-    """What the prover first refused: a need of a function's proof, or a law. An error that only follows from another is passed over."""
+    """What the prover first refused: a need of a function's proof, or a law. An error that only follows from another is passed over.
+    A proof that no longer fits the code shows nothing of the fact, and no row says that."""
+    if SHAPE in log:
+        return "the shape"
     for part, file, name, why in ERROR.findall(log):
         if "was not admitted" not in why:
             function = file.removesuffix("/Proof").replace("/", "::") if file.endswith("/Proof") else f"{part}/{file}"

@@ -1,5 +1,5 @@
 // The counts N(t, s) of document 01, "How many forms" (Table 1 of source 000, the Catalan triangle):
-// the table that holds them, and its look-up. A crate of its own, since its check takes the longest. The
+// the table that holds them, and its look-up. A crate of its own, since its check takes long. The
 // contracts cite specs/Count.
 ghost use mathlib.Core.Path.{_≡_};
 ghost use Prim.Native.Nat.{_≤_};
