@@ -1,7 +1,7 @@
 #!/usr/bin/env python3
 """Writes the table of counts, src/table.rt and specs/Table.antt, from the addition rule of document 01.
 
-The largest count is read from specs/Count.antt, the one place that names it. The look-up has the counts with s up to t row after
+The largest count is read from specs/Count.antt, the one place of the definitions that names it. The look-up has the counts with s up to t row after
 row, in three parts of whole rows, since a match of all of them is more than one function's check takes.
   table.py           writes the two files
   table.py --check   exits with 1 where a file is not what would be written

@@ -1,5 +1,5 @@
 -- The definitions of specs/ on small inputs: a test that holds throughout and one that does not; a first place,
--- another, and none. Assumes nothing.
+-- and none. Assumes nothing.
 use mathlib.Core.Bool.{true, false}
 use mathlib.Core.Path.{_≡_, refl}
 use lib.Dec.{eqb, ltb}
@@ -27,10 +27,6 @@ none-to-test = refl
 first-above-1 : first (λ k. ltb 1 k) 5 ≡ 2
 unfolding firstFrom
 first-above-1 = refl
-
-first-at-0 : first (λ k. ltb k 3) 5 ≡ 0
-unfolding firstFrom
-first-at-0 = refl
 
 first-nowhere : first (λ k. eqb k 7) 5 ≡ 5
 unfolding firstFrom

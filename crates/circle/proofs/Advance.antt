@@ -4,7 +4,7 @@
 --     moved-advances     each shape of a step advances
 --     next-advances      so the next form does
 -- Assumes nothing.
-use mathlib.Core.Bool.{true, false, false≢true}
+use mathlib.Core.Bool.{true, false≢true}
 use mathlib.Core.List.{List, [], _∷_, reverseAux}
 use mathlib.Core.Logic.{_⊎_, inl, inr}
 use mathlib.Core.Path.{_≡_, refl, _∙_, ap, sym, subst}

@@ -16,11 +16,11 @@ use Rattle.schedule.specs.Schedule.{ones, zeros, Schedule, isSchedule}
 use Rattle.schedule.proofs.Hand.{plays, plays-schedule}
 use Rattle.circle.specs.declared.Move.{Move}
 use Rattle.circle.specs.Step.{shift, is01, found, has01, movesNext, next, top}
-use Rattle.circle.specs.Walk.{steps, changed, worked, isDip, dips}
+use Rattle.circle.specs.Walk.{steps, changed, worked, isDip, dips, OneWay}
 use Rattle.circle.specs.Plan.{Form, applied, changes, Inside, Plans}
 use Rattle.circle.specs.Answers.{left, runRows}
 use Rattle.circle.proofs.Circle.{steps-schedule}
-use Rattle.circle.proofs.Theorems.{OneWay, circle}
+use Rattle.circle.proofs.Theorems.{circle}
 
 -- the third and the fourth prefix shift of 11010: the symbol goes to position 2
 shift-3 : shift 3 (1 ∷ 1 ∷ 0 ∷ 1 ∷ 0 ∷ []) ≡ 1 ∷ 0 ∷ 1 ∷ 1 ∷ 0 ∷ []

@@ -2,7 +2,7 @@
 --     ups p c, downs q c          p ones, or q zeros, in front of c
 --     View, view                  a list that plays is ones and zeros, or has a 1 behind its first zeros
 --     plays-shape, shape-plays    whether such a list plays, by how many ones and zeros it starts with
---     ones-.., zeros-.., length-.., get-..     counts, lengths and beats by the shape
+--     shape-.., get-..            counts, lengths and beats by the shape
 --     turn-ups, turn-downs        the shape of the list written last beat first
 -- Assumes nothing.
 use mathlib.Core.Bool.{Bool, true, false, false≢true}

@@ -1,7 +1,6 @@
 -- The circle and the work of its steps: the letter, demand 3, and document 01, "The step". Each once over t and s.
 --     next-form             the next form of a schedule of t, s is a schedule of t, s [O1a]
 --     no-01-top             with no 0 followed by 1 a schedule is t ones and then s zeros [S3]
---     OneWay                exactly one number of steps from 1 to N(t, s) leads from a to b
 --     circle                for every two forms there is that one number of steps [D3b]
 --     circle-start-last     from a form to itself it is N(t, s): the start is met last [D3c]
 --     dip-means, means-dip  a dip sets down at its second beat and is not the form after t ones and s zeros
@@ -26,7 +25,7 @@ use Rattle.triangle.proofs.Count.{N-zero, N-over, N-add, N-pos}
 use Rattle.schedule.specs.Schedule.{Schedule, ones}
 use Rattle.schedule.proofs.Hand.{schedule-le, schedule-plays}
 use Rattle.circle.specs.Step.{has01, next, top}
-use Rattle.circle.specs.Walk.{steps, changed, worked, isDip, dips}
+use Rattle.circle.specs.Walk.{steps, changed, worked, isDip, dips, OneWay}
 use Rattle.circle.proofs.Shape.{ups, downs, View, none, some, view, shape-ones, shape-length, top-shape}
 use Rattle.circle.proofs.Moves.{has01-some}
 use Rattle.circle.proofs.Circle.{next-schedule, round, reaches, once}
@@ -47,13 +46,6 @@ no-01-top {t} {s} {b} p e = by (view 0 b (schedule-plays p)) p e
         let down : d ≡ s = omega (arith, shape-length u d [], q .size, up) in
         ap₂ (λ (i j : ℕ). ups i (downs j [])) up down ∙ sym (top-shape t s)
     by (some u d z) q f = absurd (false≢true (sym f ∙ has01-some u d z))
-
-pub record OneWay (t s : ℕ) (a b : List ℕ) : Type 0 where
-  pub count : ℕ
-  pub from : 1 ≤ count
-  pub to : count ≤ N t s
-  pub leads : steps count a ≡ b
-  pub only : (k : ℕ) → 1 ≤ k → k ≤ N t s → steps k a ≡ b → k ≡ count
 
 module _ {t s : ℕ} {a : List ℕ} (p : Schedule t s a) where
   pub circle : {b : List ℕ} → Schedule t s b → OneWay t s a b

@@ -9,7 +9,7 @@
 --     top t s         t ones and then s zeros
 use mathlib.Core.Bool.{Bool, cond, _&&_}
 use mathlib.Core.List.{List, _∷_, _++_}
-use Prim.Native.Nat.{ℕ, suc, pred, _+_}
+use Prim.Native.Nat.{ℕ, suc, pred}
 use lib.Dec.{eqb, leb, ltb}
 use lib.ListN.{length, getD, take, drop, replicate}
 use Rattle.bounded.specs.Bounded.{first}

@@ -4,11 +4,14 @@
 --     worked k b      the changed beats of k steps from b, added up
 --     isDip t s c     c sets down at its second beat, and is not the form after t ones and s zeros
 --     dips t s k b    how many of k steps from b arrive at such a form
+--     OneWay          exactly one number of steps from 1 to N(t, s) leads from a to b
 use mathlib.Core.Bool.{Bool, cond, _&&_}
 use mathlib.Core.List.{List, [], _∷_}
-use Prim.Native.Nat.{ℕ, zero, suc, _+_}
+use mathlib.Core.Path.{_≡_}
+use Prim.Native.Nat.{ℕ, zero, suc, _+_, _≤_}
 use lib.Dec.{eqb, ltb}
 use lib.ListN.{getD}
+use Rattle.triangle.specs.Count.{N}
 use Rattle.circle.specs.Step.{next, top}
 
 unfoldable pub steps : ℕ → List ℕ → List ℕ
@@ -30,3 +33,10 @@ isDip t s c = eqb (getD c 1 0) 0 && ltb 0 (changed c (next (top t s)))
 unfoldable pub dips : ℕ → ℕ → ℕ → List ℕ → ℕ
 dips t s zero b = 0
 dips t s (suc k) b = dips t s k b + cond (isDip t s (steps (suc k) b)) 1 0
+
+pub record OneWay (t s : ℕ) (a b : List ℕ) : Type 0 where
+  pub count : ℕ
+  pub from : 1 ≤ count
+  pub to : count ≤ N t s
+  pub leads : steps count a ≡ b
+  pub only : (k : ℕ) → 1 ≤ k → k ≤ N t s → steps k a ≡ b → k ≡ count

@@ -1,7 +1,7 @@
 // The step and the run along the circle: document 01, "The step". Both work in the lent schedule, and what
 // each would change comes from a call that writes nothing. The contracts of the public functions cite
 // specs/Answers, which says what they answer and leave by specs/Step and specs/Walk; those of the private
-// ones cite specs/Plan.
+// ones cite specs/Plan, and that of may_run specs/Answers.
 ghost use mathlib.Core.Path.{_≡_};
 ghost use Prim.Native.Nat.{_≤_};
 ghost use lib.ListN.{length};

@@ -6,9 +6,9 @@
 --     accepted-owed     and what was lent is as long as it has to be
 --     call-refused      so what the letter wants refused is not accepted
 -- Assumes nothing.
-use mathlib.Core.Bool.{true, true≢false}
+use mathlib.Core.Bool.{true≢false}
 use mathlib.Core.List.{List, [], _∷_, _++_}
-use mathlib.Core.Path.{_≡_, refl, _∙_, ap, sym, subst}
+use mathlib.Core.Path.{_≡_, refl, _∙_, sym, subst}
 use Prim.Native.Nat.{ℕ, _+_, _≤_}
 use native.Mathlib.Omega.{arith}
 use lib.Dec.{ltb}
@@ -16,23 +16,24 @@ use lib.ListN.{length}
 use Rattle.refusal.specs.declared.Refusal.the-variants.{UnknownKind, NoRoom, RunTooLong}
 use Rattle.refusal.specs.declared.Verdict.{Verdict}
 use Rattle.refusal.specs.Answer.{answer, verdict}
-use Rattle.refusal.specs.Order.{Row, _⇒_, judge}
+use Rattle.refusal.specs.Order.{_⇒_, judge}
 use Rattle.refusal.proofs.Order.{judge-front, judge-back}
 use Rattle.refusal.proofs.Theorems.{verdict-answer}
-use Rattle.triangle.specs.Count.{N, largest}
-use Rattle.counts.specs.Counts.{Allowed, countRows}
+use Rattle.triangle.specs.Count.{largest}
+use Rattle.counts.specs.Counts.{Allowed}
 use Rattle.counts.proofs.Sizes.{counts-allowed}
 use Rattle.schedule.specs.Schedule.{Schedule}
 use Rattle.schedule.specs.Check.{checkRows, checked}
 use Rattle.schedule.proofs.Theorems.{accepted-schedule}
 use Rattle.circle.specs.Answers.{longest, runRows}
-use Rattle.number.specs.Answers.{numberRows, formRows, formVerdict, sheetRows, sheetVerdict}
+use Rattle.number.specs.Answers.{numberRows, sheetVerdict}
 use Rattle.number.proofs.Verdicts.{number-allowed, form-allowed}
-use Rattle.tree.specs.Table.{lentRows, treeRows, Treed, filled, kept}
+use Rattle.tree.specs.Table.{Treed, filled, kept}
 use Rattle.tree.proofs.Sizes.{sizes-right}
 use Rattle.tree.proofs.Theorems.{tree-accepts}
 use Rattle.tree_back.specs.Back.{Untreed, found, none, unfit}
-use Rattle.record.specs.Record.{Kind, isUnknown, kindOf, roomRow, writeRows, kindRows, readRows, cut}
+use Rattle.record.specs.Record.{Kind, isUnknown, kindOf, roomRow, writeRows, kindRows}
+use Rattle.reading.proofs.Verdicts.{told-verdict}
 use Rattle.reading.proofs.Parts.{read-facts}
 use Rattle.reading.proofs.Meaning.{numbered-facts, read-means}
 use Rattle.demands.specs.Calls.{Call, Gives}
@@ -40,7 +41,6 @@ use Rattle.demands.specs.Calls.{CountsOf, of-count, of-check, of-next, o
 use Rattle.demands.specs.Calls.{BeatsOf, in-check, in-next, in-changed, in-run, in-run-changed, in-number, in-tree, in-write}
 use Rattle.demands.specs.Calls.{Owed, beats, formed, left, right, parent, from-left, from-right, from-parent, schedule}
 use Rattle.demands.specs.Demands.{Wrong, counts-above, more-down, bad-beat, wrong-length, no-form, no-form-on-sheet, no-form-in-record, cut-record}
-use Rattle.demands.proofs.Calls.{verdict-told}
 
 pub taken : (v : Verdict) (n : ℕ) → Verdict.Accepted ≡ verdict (answer v n) → v ≡ Verdict.Accepted
 taken v n e = sym (e ∙ verdict-answer v n)
@@ -81,7 +81,7 @@ accepted-counts m x (of-form {t} {s} {n} {out}) g = form-counts t s n (form-allo
 accepted-counts m x (of-form-on-sheet {t} {s} {n} {sheet} {column}) g = form-counts t s n (sheet-number t s n sheet column (sym (g .0 .0)))
 accepted-counts m x of-tree g = (tree-sized _ refl (g .3) .0 .0, omega arith)
 accepted-counts m x of-schedule-of-tree g = (back-sized _ refl (g .1) .0, omega arith)
-accepted-counts m x (of-read {src} {out}) g = read-means src (length out) (sym (g .0 .0 ∙ verdict-told _ _ _ _ _)) .allowed
+accepted-counts m x (of-read {src} {out}) g = read-means src (length out) (sym (g .0 .0 ∙ told-verdict _ _ _ _ _)) .allowed
 accepted-counts m x (of-write {kind} {t} {s} {b} {out}) g = accepted-schedule t s b (write-checked kind t s b out (taken _ _ (g .0 .0))) .0
 
 pub accepted-beats : {c : Call} {t s : ℕ} {b : List ℕ} (m : List ℕ) (x : List (List ℕ)) → CountsOf c t s → BeatsOf c b → Gives c Verdict.Accepted m x → Schedule t s b
@@ -124,6 +124,6 @@ call-refused c m x (wrong-length o d) g = d (accepted-owed m x o g)
 call-refused c m x (no-form {t} {s} {n} {out} h) g = omega (arith, number-allowed t s n (form-allowed t s n out (sym (g .0 .0)) .0) .2)
 call-refused c m x (no-form-on-sheet {t} {s} {n} {sheet} {column} h) g = omega (arith, number-allowed t s n (sheet-number t s n sheet column (sym (g .0 .0))) .2)
 call-refused c m x (no-form-in-record {src} {out} k h) g =
-    let rows = read-facts (length out) src (sym (g .0 .0 ∙ verdict-told _ _ _ _ _)) .4 in
+    let rows = read-facts (length out) src (sym (g .0 .0 ∙ told-verdict _ _ _ _ _)) .4 in
     omega (arith, numbered-facts src (subst (λ (kind : Kind). judge (kindRows kind src) ≡ Verdict.Accepted) k rows) .2)
-call-refused c m x (cut-record {src} {out} h) g = true≢false (sym h ∙ read-facts (length out) src (sym (g .0 .0 ∙ verdict-told _ _ _ _ _)) .1)
+call-refused c m x (cut-record {src} {out} h) g = true≢false (sym h ∙ read-facts (length out) src (sym (g .0 .0 ∙ told-verdict _ _ _ _ _)) .1)

@@ -1,6 +1,6 @@
 -- What holds of every call, by the words of its contract: the parts of demand 1.
 --     call-unchanged     a refused call leaves all that was lent as it was
---     call-silent        and answers no number
+--     call-silent        and answers 0 for every number but the bytes that a read record takes
 --     call-one           no second verdict, number or content fits the contract [P2]
 -- Assumes nothing.
 use mathlib.Core.List.{List, [], _∷_}
@@ -11,7 +11,6 @@ use lib.ListN.{length, getD, take}
 use Rattle.refusal.specs.declared.Answer.{Answer}
 use Rattle.refusal.specs.declared.Refusal.{Refusal}
 use Rattle.refusal.specs.declared.Verdict.{Verdict}
-use Rattle.refusal.specs.Answer.{answer, verdict, value}
 use Rattle.refusal.specs.Order.{judge}
 use Rattle.refusal.proofs.Theorems.{verdict-answer}
 use Rattle.counts.specs.Counts.{counting}
@@ -26,14 +25,10 @@ use Rattle.tree_back.specs.Back.{Untreed, found, none, unfit}
 use Rattle.tree_back.proofs.Theorems.{untreed-one}
 use Rattle.record.specs.Record.{recordOf, writeRows, writeAnswer, readRows}
 use Rattle.order.specs.declared.Reading.{Reading}
-use Rattle.reading.specs.Reading.{told, readAnswer}
+use Rattle.reading.specs.Reading.{readAnswer}
 use Rattle.order.specs.Parts as said
+use Rattle.reading.proofs.Verdicts.{told-verdict}
 use Rattle.demands.specs.Calls.{Call, count, check, next, changed, run, run-changed, number, form, form-on-sheet, tree, schedule-of-tree, read, write, lent, Says, Gives, silenced}
-
--- a reading and the verdict that it was made from
-pub verdict-told : (v : Verdict) (t s n l : ℕ) → said.verdict (told t s n l v) ≡ v
-verdict-told Verdict.Accepted t s n l = refl
-verdict-told (Verdict.Refused why) t s n l = refl
 
 -- a refused call leaves what was lent
 still : {why : Refusal} (v : Verdict) → Verdict.Refused why ≡ v → (done lent : List ℕ) → left v done lent ≡ lent
@@ -70,7 +65,7 @@ call-unchanged (schedule-of-tree n l r p out) why m x g =
     g .3 ∙ ap (λ (w : List ℕ). l ∷ r ∷ p ∷ w ∷ []) (back-kept (Verdict.Refused why) refl (g .1))
 call-unchanged (read src out) why m x g =
     let v = judge (readRows (length out) src) in
-    g .1 ∙ ap (λ (w : List ℕ). src ∷ w ∷ []) (still v (g .0 .0 ∙ verdict-told v _ _ _ _) _ out)
+    g .1 ∙ ap (λ (w : List ℕ). src ∷ w ∷ []) (still v (g .0 .0 ∙ told-verdict _ _ _ _ v) _ out)
 call-unchanged (write kind t s b out) why m x g =
     let v = judge (writeRows kind t s b out) in
     g .1 ∙ ap (λ (w : List ℕ). b ∷ w ∷ []) (still v (g .0 .0 ∙ verdict-answer v (length (recordOf kind t s b))) _ out)

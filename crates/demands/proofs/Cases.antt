@@ -17,8 +17,8 @@ use Rattle.refusal.specs.declared.Answer.{Answer}
 use Rattle.refusal.specs.declared.Verdict.{Verdict}
 use Rattle.circle.specs.Step.{top}
 use Rattle.circle.proofs.Circle.{top-schedule}
-use Rattle.demands.specs.Calls.{Call, count, check, read, lent, Says, Gives, silenced, CountsOf, of-count, of-check, of-next, of-run, BeatsOf, in-check, Owed, beats}
-use Rattle.demands.specs.Demands.{Wrong, counts-above, Demand2, Between, Demand3, Demand3All}
+use Rattle.demands.specs.Calls.{count, check, read, lent, Says, Gives, silenced, CountsOf, of-count, of-check, of-next, of-run, BeatsOf, in-check, Owed, beats}
+use Rattle.demands.specs.Demands.{Wrong, counts-above, Demand2, Demand3, Demand3All}
 use Rattle.demands.proofs.Accepted.{accepted-counts, accepted-beats, accepted-owed, call-refused}
 use Rattle.demands.proofs.Demands.{demands}
 use Rattle.demands.specs.Examples.{InOrder, Changing, Numbering, Holds, counts, follows, changes, rounds, numbers, links}
@@ -151,11 +151,3 @@ demand-3-3 = demands .third 3 2 (omega arith, omega arith) (omega arith) (omega 
 demand-3-1 : Demand3 1 1 → ⊥
 unfolding every firstFrom ones zeros isSchedule shift found has01 movesNext next changed
 demand-3-1 p = ⊎-elim (λ two. omega (arith, two)) (λ four. omega (arith, four)) (p .step-changes (top 1 1) (top-schedule 1 1 (omega arith)))
-
--- 110 is met again at the end of its round; where there is no form, nothing leads anywhere
-between-2-1 : Between 2 1 (top 2 1) (top 2 1)
-between-2-1 = demands .third 2 1 (omega arith, omega arith) (omega arith) (omega arith) .every-form-once (top 2 1) (top 2 1) (top-schedule 2 1 (omega arith)) (top-schedule 2 1 (omega arith))
-
-between-0-1 : Between 0 1 [] [] → ⊥
-unfolding N
-between-0-1 p = omega (arith, p .from, p .to)

@@ -25,24 +25,23 @@ use Rattle.schedule.specs.Schedule.{Schedule}
 use Rattle.schedule.specs.Check.{checkRows, checked}
 use Rattle.schedule.proofs.Theorems.{accepted-schedule, schedule-accepted, N-schedules, lists-N}
 use Rattle.circle.specs.Answers.{longest, left, runRows, runLeft}
-use Rattle.circle.specs.Step as rule
-use Rattle.circle.specs.Walk.{steps, worked}
-use Rattle.circle.specs.Walk as walk
+use Rattle.circle.specs.Walk.{worked}
 use Rattle.circle.proofs.Forms.{run-taken}
 use Rattle.circle.proofs.Theorems.{circle, circle-start-last, step-changes, round-changes}
 use Rattle.number.specs.Number.{Fewest, numberOf, formOf}
-use Rattle.number.specs.Answers.{numberAnswer, formVerdict, formLeft}
+use Rattle.number.specs.Answers.{numberAnswer, formLeft}
 use Rattle.number.proofs.Numbers.{form-schedule}
 use Rattle.number.proofs.Theorems.{number-fewest, number-below}
-use Rattle.number.proofs.Verdicts.{number-taken, number-allowed, form-taken, form-allowed}
-use Rattle.number.proofs.Agreement.{asked-numbered, numbered-asked, walked-asked}
-use Rattle.demands.specs.Calls.{next, number, form, run, Says, Gives}
-use Rattle.demands.specs.Demands.{Demand1, Demand2, Demand3, Demand3All, Between, Demands}
+use Rattle.number.proofs.Verdicts.{form-allowed}
+use Rattle.number.proofs.Agreement.{form-accepted, asked-numbered, numbered-asked, walked-asked}
+use Rattle.demands.specs.Calls.{number, form, run, Says, Gives}
+use Rattle.demands.specs.Demands.{Demand1, Demand2, Demand3, Demand3All, Demands}
 use Rattle.demands.proofs.Calls.{call-unchanged, call-silent, call-one}
 use Rattle.demands.proofs.Accepted.{taken, call-refused}
+use Rattle.demands.proofs.Answered.{call-answered}
 
 demand-1 : Demand1
-demand-1 = record { by-number = refused-number; refused = call-refused; unchanged = call-unchanged; silent = call-silent; one-answer = call-one }
+demand-1 = record { by-number = refused-number; refused = call-refused; unchanged = call-unchanged; silent = call-silent; answered = call-answered; one-answer = call-one }
 
 -- an accepted call, and what it says
 says : (a : Answer) (n : ℕ) → a ≡ Answer.Value n → Says a Verdict.Accepted (n ∷ [])
@@ -58,15 +57,12 @@ single : {x y : List ℕ} → _≡_ {A = List (List ℕ)} (x ∷ []) (y ∷ []) 
 single e = ap (λ (l : List (List ℕ)). getD l 0 []) e
 
 module _ (t s : ℕ) (a : Allowed t s) where
-  -- what an accepted number says, and what an accepted form is
+  -- what an accepted number says
   numbered : (b : List ℕ) (n : ℕ) → Gives (number t s b) Verdict.Accepted (n ∷ []) (b ∷ []) → Schedule t s b × (n ≡ numberOf t s b)
   numbered b n g =
       let e = taken (checked t s b) (numberOf t s b) (g .0 .0) in
       let said : n ∷ [] ≡ numberOf t s b ∷ [] = g .0 .1 ∙ ap (λ (v : Verdict). value (answer v (numberOf t s b)) ∷ []) e in
       (accepted-schedule t s b e .1, ap (λ (l : List ℕ). getD l 0 0) said)
-
-  form-accepted : (n : ℕ) (out : List ℕ) → n < N t s → length out ≡ t + s → formVerdict t s n out ≡ Verdict.Accepted
-  form-accepted n out h long = form-taken t s n out (number-taken t s n (allowed-counts t s a) h) long
 
   -- a run that was taken is not too long
   run-short : (b : List ℕ) (k : ℕ) → judge (runRows t s b k) ≡ Verdict.Accepted → k ≤ longest
@@ -80,7 +76,7 @@ module _ (t s : ℕ) (a : Allowed t s) where
         next-form = λ b p. let e = schedule-accepted t s b a p in (says _ _ (accepts _ e _), leaves _ e _ b);
         number-given = λ b p. (numberOf t s b, (says _ _ (accepts _ (schedule-accepted t s b a p) _), refl));
         number-fewest = λ b n g. let said = numbered b n g in subst (Fewest t s b) (sym (said .1)) (number-fewest (said .0));
-        form-given = λ n out h long. (formOf t s n, form-schedule (a .1) n, ((sym (form-accepted n out h long), refl), leaves _ (form-accepted n out h long) _ out));
+        form-given = λ n out h long. (formOf t s n, form-schedule (a .1) n, ((sym (form-accepted t s a n out h long), refl), leaves _ (form-accepted t s a n out h long) _ out));
         form-number = λ n out b g. (says _ n (ap (numberAnswer t s) (single (g .1)) ∙ asked-numbered t s n out (sym (g .0 .0))), refl);
         number-form = asks;
         walking-asking = walks;
@@ -91,7 +87,7 @@ module _ (t s : ℕ) (a : Allowed t s) where
           let said = numbered b n g in
           let below : n < N t s = omega (arith, said .1, number-below (said .0)) in
           let answered = accepts (checked t s b) (schedule-accepted t s b a (said .0)) (numberOf t s b) ∙ ap Answer.Value (sym (said .1)) in
-          ((sym (form-accepted n out below long), refl), ap (λ (l : List ℕ). l ∷ []) (sym (numbered-asked t s b n answered out long)))
+          ((sym (form-accepted t s a n out below long), refl), ap (λ (l : List ℕ). l ∷ []) (sym (numbered-asked t s b n answered out long)))
 
       walks : (n k : ℕ) (out a' b m : List ℕ) → Gives (form t s n out) Verdict.Accepted [] (a' ∷ []) → Gives (run t s a' k) Verdict.Accepted m (b ∷ [])
           → Gives (form t s ((n + k) % N t s) out) Verdict.Accepted [] (b ∷ [])
@@ -100,12 +96,12 @@ module _ (t s : ℕ) (a : Allowed t s) where
           let short = run-short a' k (taken (judge (runRows t s a' k)) (worked k a') (h .0 .0)) in
           let walked : b ≡ formLeft t s ((n + k) % N t s) out =
           single (h .1) ∙ ap (λ (c : List ℕ). runLeft t s c k) (single (g .1)) ∙ walked-asked t s n k out (sym (g .0 .0)) short in
-          ((sym (form-accepted ((n + k) % N t s) out (mod-lt (n + k) (N-pos t s (a .1))) long), refl), ap (λ (l : List ℕ). l ∷ []) walked)
+          ((sym (form-accepted t s a ((n + k) % N t s) out (mod-lt (n + k) (N-pos t s (a .1))) long), refl), ap (λ (l : List ℕ). l ∷ []) walked)
 
   demand-3 : 2 ≤ t → 1 ≤ s → Demand3 t s
   demand-3 two one =
       record {
-        every-form-once = λ b c p q. let way = circle p q in record { count = way .count; from = way .from; to = way .to; leads = way .leads; only = way .only };
+        every-form-once = λ b c p q. circle p q;
         start-last = λ b p. circle-start-last p;
         step-changes = λ b p. ⊎-elim (λ four. inr (four .0)) (λ change. inl (change .0)) (step-changes two one p);
         round-changes = λ b p. round-changes two one p;
@@ -115,6 +111,7 @@ module _ (t s : ℕ) (a : Allowed t s) where
   demand-3-all =
       record {
         how-many = λ l p. lists-N t s l p;
+        counted = (says _ _ (accepts _ (allowed-counts t s a) _), refl);
         all-listed = let l = N-schedules t s in (l .0, l .1);
         run-given = λ b k p h. let e = run-taken t s b k (schedule-accepted t s b a p) h in (says _ _ (accepts _ e _), leaves _ e _ b);
       }

@@ -34,6 +34,8 @@ computed =
     (refl and refl and refl and refl and refl and refl and tt) and
     (refl and refl and refl and refl and refl and tt) and
     refl and
+    refl and
+    refl and
     (refl and refl and refl and refl and refl and tt) and
     (refl and refl and refl and tt) and
     refl and

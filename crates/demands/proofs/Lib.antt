@@ -1,5 +1,6 @@
 pub mod Examples
 pub mod Calls
 pub mod Accepted
+pub mod Answered
 pub mod Demands
 pub mod Cases

@@ -2,9 +2,8 @@
 -- proofs/Demands.antt proves each. That every call ends and takes every input is what the contracts say by having no `requires`.
 -- Definitions only.
 --     Wrong                what the letter wants refused: counts above 32, bad beats, wrong lengths, numbers beyond the last form, cut records
---     Demand1              a call does its work or refuses by number, and there is no second answer; a refusal changes nothing
+--     Demand1              a call does its work or refuses by number: there is an answer, and no second one; a refusal changes nothing
 --     Demand2 t s          the next form, the number and the form of allowed counts
---     Between              the one number of steps, from 1 to N(t, s), that leads from a form to a form
 --     Demand3 t s          the circle of t, s, and its work
 --     Demand3All t s       how many forms there are, and runs
 --     Demands              all of them
@@ -21,13 +20,13 @@ use Rattle.triangle.specs.Count.{N, largest}
 use Rattle.counts.specs.Counts.{Allowed}
 use Rattle.schedule.specs.Schedule.{Schedule, Lists}
 use Rattle.circle.specs.Step as rule
-use Rattle.circle.specs.Walk.{steps, worked}
+use Rattle.circle.specs.Walk.{steps, worked, OneWay}
 use Rattle.circle.specs.Walk as walk
 use Rattle.circle.specs.Answers.{longest}
 use Rattle.number.specs.Number.{Fewest}
 use Rattle.record.specs.Bytes.{valueOf}
 use Rattle.record.specs.Record.{numbered, kindIn, ups, downs, body, cut}
-use Rattle.demands.specs.Calls.{Call, next, run, number, form, form-on-sheet, read, lent, Gives, silenced, CountsOf, BeatsOf, Owed}
+use Rattle.demands.specs.Calls.{Call, count, next, run, number, form, form-on-sheet, read, lent, Gives, silenced, CountsOf, BeatsOf, Owed}
 
 pub data Wrong : Call → Type 0 where
   counts-above : {c : Call} {t s : ℕ} → CountsOf c t s → largest < t → Wrong c
@@ -46,6 +45,7 @@ pub record Demand1 : Type 0 where
   pub refused : (c : Call) (m : List ℕ) (x : List (List ℕ)) → Wrong c → Gives c Verdict.Accepted m x → ⊥
   pub unchanged : (c : Call) (why : Refusal) (m : List ℕ) (x : List (List ℕ)) → Gives c (Verdict.Refused why) m x → x ≡ lent c
   pub silent : (c : Call) (why : Refusal) (m : List ℕ) (x : List (List ℕ)) → Gives c (Verdict.Refused why) m x → (i : ℕ) → getD (silenced c m) i 0 ≡ 0
+  pub answered : (c : Call) → ((v : Verdict) (m : List ℕ) (x : List (List ℕ)) → Gives c v m x → ⊥) → ⊥
   pub one-answer : (c : Call) (v w : Verdict) (m k : List ℕ) (x y : List (List ℕ)) → Gives c v m x → Gives c w k y → (v ≡ w) × (m ≡ k) × (x ≡ y)
 
 -- "The next form is the one the CoolCat rule of Ruskey and Williams gives. A form's number is the fewest steps of that rule that lead to it
@@ -62,18 +62,11 @@ pub record Demand2 (t s : ℕ) : Type 0 where
   pub walking-asking : (n k : ℕ) (out a b : List ℕ) (m : List ℕ) → Gives (form t s n out) Verdict.Accepted [] (a ∷ [])
       → Gives (run t s a k) Verdict.Accepted m (b ∷ []) → Gives (form t s ((n + k) % N t s) out) Verdict.Accepted [] (b ∷ [])
 
-pub record Between (t s : ℕ) (a b : List ℕ) : Type 0 where
-  pub count : ℕ
-  pub from : 1 ≤ count
-  pub to : count ≤ N t s
-  pub leads : steps count a ≡ b
-  pub only : (k : ℕ) → 1 ≤ k → k ≤ N t s → steps k a ≡ b → k ≡ count
-
 -- "Let N(t, s) be how many forms have t taken up and s set down. [...] N(t, s) steps from any form arrive at every form exactly once, at the
 -- start last; each step changes two or four beats, and the round exactly 2·N(t, s) + 2·N(t−1, s−1) − 2. A run of any allowed length leaves the
 -- form that many steps on, and reports exactly the beats changed at each of its steps, added up."
 pub record Demand3 (t s : ℕ) : Type 0 where
-  pub every-form-once : (a b : List ℕ) → Schedule t s a → Schedule t s b → Between t s a b
+  pub every-form-once : (a b : List ℕ) → Schedule t s a → Schedule t s b → OneWay t s a b
   pub start-last : (a : List ℕ) (p : Schedule t s a) → every-form-once a a p p .count ≡ N t s
   pub step-changes : (b : List ℕ) → Schedule t s b → (walk.changed b (rule.next b) ≡ 2) ⊎ (walk.changed b (rule.next b) ≡ 4)
   pub round-changes : (b : List ℕ) → Schedule t s b → worked (N t s) b ≡ 2 * N t s + 2 * N (t - 1) (s - 1) - 2
@@ -81,6 +74,7 @@ pub record Demand3 (t s : ℕ) : Type 0 where
 -- its first and its last sentence, which leave no counts out
 pub record Demand3All (t s : ℕ) : Type 0 where
   pub how-many : (l : List (List ℕ)) → Lists (Schedule t s) l → length l ≡ N t s
+  pub counted : Gives (count t s) Verdict.Accepted (N t s ∷ []) []
   pub all-listed : (l : List (List ℕ)) × Lists (Schedule t s) l
   pub run-given : (b : List ℕ) (k : ℕ) → Schedule t s b → k ≤ longest → Gives (run t s b k) Verdict.Accepted (worked k b ∷ []) (steps k b ∷ [])
 

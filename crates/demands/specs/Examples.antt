@@ -61,6 +61,8 @@ examples =
     ) ∷
     changes 3 2 (2 ∷ 2 ∷ 4 ∷ 2 ∷ 2 ∷ []) ∷
     rounds 3 2 12 ∷
+    counts 3 2 5 ∷
+    counts 2 1 2 ∷
     follows 3 3 (
     (1 ∷ 1 ∷ 1 ∷ 0 ∷ 0 ∷ 0 ∷ []) ∷
     (1 ∷ 0 ∷ 1 ∷ 1 ∷ 0 ∷ 0 ∷ []) ∷

@@ -5,7 +5,7 @@
 --     front-turn      one beat more
 --     front-all       at the end the ones and zeros stand before what was there
 -- Assumes nothing.
-use mathlib.Core.List.{List, [], _∷_, _++_}
+use mathlib.Core.List.{List, _∷_, _++_}
 use mathlib.Core.Path.{_≡_, refl, _∙_, ap, ap₂, sym}
 use Prim.Native.Nat.{ℕ, zero, suc, _+_, _-_, _≤_, _<_}
 use native.Mathlib.Decide.{decLt}
@@ -15,18 +15,14 @@ use mir.Val.{boolByte}
 use lib.Dec.{ltb}
 use lib.ListN.{length, getD, drop, set, length-set}
 use lib.Seq.{drop-cons}
+use Rattle.schedule.proofs.Copied.{stored}
 use Rattle.circle.specs.Step.{top}
 use Rattle.circle.proofs.Shape.{ups, downs, get-ups, get-up, get-down, shape-length, shape-join, top-shape}
-
-written : (b : List ℕ) (j x : ℕ) → j < length b → drop j (set b j x) ≡ x ∷ drop (suc j) b
-written [] j x h = absurd (omega arith)
-written (y ∷ b) zero x h = refl
-written (y ∷ b) (suc j) x h = written b j x (omega arith)
 
 pub written-at : (b : List ℕ) (i x : ℕ) → 0 < i → i ≤ length b → drop (i - 1) (set b (i - 1) x) ≡ x ∷ drop i b
 written-at b i x h l =
     let e : suc (i - 1) ≡ i = omega arith in
-    written b (i - 1) x (omega arith) ∙ ap (λ (k : ℕ). x ∷ drop k b) e
+    stored b (i - 1) x (omega arith) ∙ ap (λ (k : ℕ). x ∷ drop k b) e
 
 abbrev fronted : ℕ → ℕ → List ℕ → List ℕ
 fronted p n b = ups p (downs (n - p) (drop n b))

@@ -24,7 +24,7 @@ use lib.Seq.{drop-length}
 use Rattle.triangle.specs.Count.{N, largest}
 use Rattle.triangle.proofs.Count.{N-add, N-zero, N-over, N-pos}
 use Rattle.schedule.specs.Schedule.{ones, zeros}
-use Rattle.schedule.proofs.Hand.{Turned, down, up, ones-turn, zeros-turn, turned, unturned, plays-schedule}
+use Rattle.schedule.proofs.Hand.{Turned, down, up, ones-turn, zeros-turn, unturned, plays-schedule}
 use Rattle.circle.specs.Step.{top}
 use Rattle.circle.proofs.Shape.{ups, downs, shape-join, top-shape, turn-ups, turn-downs}
 use Rattle.circle.proofs.Rank.{raise, rank, rank-below}

@@ -18,29 +18,14 @@ digits-0 : digits 2 0 ≡ []
 unfolding digits
 digits-0 = refl
 
+-- 0 has a digit, though `digits` gives none
 decimal-0 : decimal 0 ≡ 48 ∷ []
 unfolding decimal digits
 decimal-0 = refl
 
-decimal-7 : decimal 7 ≡ 55 ∷ []
-unfolding decimal digits
-decimal-7 = refl
-
 decimal-10 : decimal 10 ≡ 49 ∷ 48 ∷ []
 unfolding decimal digits
 decimal-10 = refl
-
--- the number of forms of 32, 32, the largest count
-decimal-largest : decimal 55534064877048198
-    ≡ 53 ∷ 53 ∷ 53 ∷ 51 ∷ 52 ∷ 48 ∷ 54 ∷ 52 ∷ 56 ∷ 55 ∷ 55 ∷ 48 ∷ 52 ∷ 56 ∷ 49 ∷ 57 ∷ 56 ∷ []
-unfolding decimal digits
-decimal-largest = refl
-
--- the largest number of 64 bits, of twenty digits
-decimal-64 : decimal 18446744073709551615
-    ≡ 49 ∷ 56 ∷ 52 ∷ 52 ∷ 54 ∷ 55 ∷ 52 ∷ 52 ∷ 48 ∷ 55 ∷ 51 ∷ 55 ∷ 48 ∷ 57 ∷ 53 ∷ 53 ∷ 49 ∷ 54 ∷ 49 ∷ 53 ∷ []
-unfolding decimal digits
-decimal-64 = refl
 
 -- "3 2 2 11010" and a line feed
 line-3-2-2 : acceptedLine 3 2 2 (1 ∷ 1 ∷ 0 ∷ 1 ∷ 0 ∷ [])

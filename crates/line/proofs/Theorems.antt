@@ -1,19 +1,15 @@
 -- What the definitions of specs/ mean, once over all numbers.
 --     decimal-spells      a decimal is digits that say its number, and none of several begins with 0 [E13]
 --     spells-decimal      no other text does that
---     decimal-same        two numbers with one decimal are one
 --     written-one         no second text and no second answer fits what is said of a written piece [P12]
---     written-front       a piece written from 0 on stands at the front, up to the answer
---     written-within      a piece ends within what was lent for it
 -- That a number of 64 bits has at most 20 digits is `digits-fit` in Digits. Assumes nothing.
 use mathlib.Core.List.{List, [], _∷_, _++_, append-nil}
 use mathlib.Core.Path.{_≡_, refl, _∙_, ap, ap₂, sym}
 use Prim.Native.Nat.{ℕ, zero, suc, _+_, _-_, _*_, _/_, _%_, _≤_, _<_}
 use native.Mathlib.Decide.{decLt}
-use native.Mathlib.Nat.{zero-add}
 use native.Mathlib.Omega.{arith}
-use lib.ListN.{length, take, drop, getD, List·getD-append, length-append}
-use lib.Seq.{getD-append-seam, append-snoc, take-append-seam, length-take-le}
+use lib.ListN.{length, getD, List·getD-append, length-append}
+use lib.Seq.{getD-append-seam, append-snoc}
 use Rattle.line.specs.Line.{decimal}
 use Rattle.line.specs.Spells.{digitsValue, Spells}
 use Rattle.line.specs.Written.{Written}
@@ -103,24 +99,5 @@ spells-decimal n (x ∷ y ∷ d) q =
     ∙ decimal-join v (y ∷ d) (omega (arith, q .first (omega arith))) (λ k l. q .digits (suc k) (omega arith))
     ∙ ap (λ (l : List ℕ). l ++ y ∷ d) (decimal-one v (omega arith) ∙ ap (λ (k : ℕ). k ∷ []) digit))
 
-pub decimal-same : (m n : ℕ) → decimal m ≡ decimal n → m ≡ n
-decimal-same m n e = sym (decimal-spells m .value) ∙ ap (digitsValue 0) e ∙ decimal-spells n .value
-
 pub written-one : {at r q : ℕ} {p xs ys zs : List ℕ} → Written at p xs ys r → Written at p xs zs q → (ys ≡ zs) × (r ≡ q)
 written-one w v = (w .text ∙ sym (v .text), w .end ∙ sym (v .end))
-
-pub written-front : {r : ℕ} {p xs ys : List ℕ} → Written 0 p xs ys r → take r ys ≡ p
-written-front {r} {p} {xs} {ys} w =
-    ap₂ take (w .end ∙ zero-add (length p)) (w .text) ∙ take-append-seam p (drop (0 + length p) xs)
-
-pub written-within : {at r : ℕ} {p xs ys : List ℕ}
-    → at ≤ length xs → Written at p xs ys r → length ys ≡ length xs → r ≤ length xs
-written-within {at} {r} {p} {xs} {ys} h w l =
-    omega (
-      arith,
-      w .end,
-      ap length (w .text),
-      length-append (take at xs ++ p) (drop (at + length p) xs),
-      length-append (take at xs) p,
-      length-take-le at xs h,
-    )

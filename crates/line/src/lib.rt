@@ -1,5 +1,6 @@
 // The text of one line of the packing list: document 01, "Examples on both sides". A line is written where
-// it is to stand, with no copy. The contracts cite specs/Line; proofs/Theorems says what a decimal is.
+// it is to stand, with no copy. The contracts cite specs/Line and specs/Written; proofs/Theorems
+// says what a decimal is.
 ghost use mathlib.Core.List.{[], _∷_, _++_};
 ghost use mathlib.Core.Path.{_≡_};
 ghost use Prim.Native.Nat.{_+_, _≤_, _<_};

@@ -1,14 +1,10 @@
 -- The definitions of specs/ on small inputs: one inside, one outside. Assumes nothing.
-use mathlib.Core.List.{List, [], _∷_}
-use mathlib.Core.Path.{_≡_, refl}
+use mathlib.Core.List.{[], _∷_}
+use mathlib.Core.Path.{refl}
 use Prim.Native.Nat.{zero, suc}
 use native.Mathlib.Omega.{arith}
 use Rattle.triangle.specs.Count.{N, counted}
-use Rattle.lookup.specs.Lent.{side, Counts}
-
--- 33 counts in a row
-side-33 : side ≡ 33
-side-33 = refl
+use Rattle.lookup.specs.Lent.{Counts}
 
 -- the first two counts of row 0 are right as far as they go, and so is an empty list; one that begins with 2 is not
 counts-two : Counts (1 ∷ 0 ∷ [])

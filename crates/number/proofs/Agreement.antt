@@ -1,11 +1,12 @@
 -- The functions agree with each other, in terms of what they answer and leave: the letter, demand 2.
--- No t, s, number or bytes are left out.
+-- No t, s or number is left out; `numbered-asked` asks for t+s lent bytes, `walked-asked` for an allowed run.
+--     form-accepted       a form is written for every number that there is, into as many bytes as it has beats
 --     asked-numbered      the number of what `form` writes for n is n [D2e]
 --     numbered-asked      what `form` writes for the number that `number` answers is the schedule that was asked about [D2f]
 --     walked-asked        walking k steps from form number m leaves what `form` writes for (m + k) mod N(t, s) [D2g]
 -- Assumes nothing.
 use mathlib.Core.List.{List}
-use mathlib.Core.Path.{_≡_, refl, _∙_, ap, sym}
+use mathlib.Core.Path.{_≡_, _∙_, ap, sym}
 use Prim.Native.Nat.{ℕ, _+_, _%_, _≤_, _<_}
 use native.Mathlib.Nat.{mod-lt}
 use native.Mathlib.Omega.{arith}
@@ -13,8 +14,10 @@ use lib.ListN.{length}
 use Rattle.refusal.specs.declared.Answer.{Answer}
 use Rattle.refusal.specs.declared.Verdict.{Verdict}
 use Rattle.refusal.specs.Answer.{answer}
-use Rattle.triangle.specs.Count.{N, largest}
+use Rattle.refusal.proofs.Theorems.{answer-value}
+use Rattle.triangle.specs.Count.{N}
 use Rattle.triangle.proofs.Count.{N-pos}
+use Rattle.counts.specs.Counts.{Allowed}
 use Rattle.counts.proofs.Sizes.{allowed-counts}
 use Rattle.schedule.specs.Check.{checked}
 use Rattle.schedule.proofs.Theorems.{accepted-schedule, schedule-accepted}
@@ -26,11 +29,6 @@ use Rattle.number.specs.Answers.{numberAnswer, formVerdict, formLeft}
 use Rattle.number.proofs.Numbers.{form-schedule}
 use Rattle.number.proofs.Theorems.{number-below, number-form, form-number, walking-asking}
 use Rattle.number.proofs.Verdicts.{number-allowed, number-taken, form-allowed, form-taken}
-
--- a value is answered only by an accepted call
-value-accepted : (v : Verdict) (n m : ℕ) → answer v n ≡ Answer.Value m → (v ≡ Verdict.Accepted) × (n ≡ m)
-value-accepted Verdict.Accepted n m e = (refl, cc)
-value-accepted (Verdict.Refused why) n m e = let z : _≡_ {A = ℕ} 0 1 = cc in absurd (omega arith)
 
 module _ (t s : ℕ) where
   -- what is written
@@ -46,19 +44,17 @@ module _ (t s : ℕ) where
       ∙ ap (λ (v : Verdict). answer v (numberOf t s (formOf t s n))) accepted
       ∙ ap Answer.Value (form-number (within .1) n (within .2))
 
-  -- a form is written for every number that there is, into as many bytes as it has beats
-  form-accepted : (n : ℕ) (out : List ℕ) → t ≤ largest → s ≤ t → n < N t s → length out ≡ t + s
-      → formVerdict t s n out ≡ Verdict.Accepted
-  form-accepted n out h k l e = form-taken t s n out (number-taken t s n (allowed-counts t s (h, k)) l) e
+  pub form-accepted : Allowed t s → (n : ℕ) (out : List ℕ) → n < N t s → length out ≡ t + s → formVerdict t s n out ≡ Verdict.Accepted
+  form-accepted a n out below long = form-taken t s n out (number-taken t s n (allowed-counts t s a) below) long
 
   pub numbered-asked : (b : List ℕ) (n : ℕ) → numberAnswer t s b ≡ Answer.Value n
       → (out : List ℕ) → length out ≡ t + s → formLeft t s n out ≡ b
   numbered-asked b n e out long =
-      let said = value-accepted (checked t s b) (numberOf t s b) n e in
+      let said = answer-value (checked t s b) (numberOf t s b) e in
       let right = accepted-schedule t s b (said .0) in
       let below : n < N t s = omega (arith, said .1, number-below (right .1)) in
-      written n out (form-accepted n out (right .0 .0) (right .0 .1) below long)
-      ∙ ap (formOf t s) (sym (said .1))
+      written n out (form-accepted (right .0) n out below long)
+      ∙ ap (formOf t s) (said .1)
       ∙ number-form (right .1)
 
   pub walked-asked : (m k : ℕ) (out : List ℕ) → formVerdict t s m out ≡ Verdict.Accepted → k ≤ longest
@@ -72,4 +68,4 @@ module _ (t s : ℕ) where
       ap (λ (b : List ℕ). runLeft t s b k) (written m out e)
       ∙ ap (λ (v : Verdict). left v (steps k (formOf t s m)) (formOf t s m)) (run-taken t s (formOf t s m) k accepted h)
       ∙ walking-asking (within .1) m k (within .2)
-      ∙ sym (written after out (form-accepted after out (within .0) (within .1) below (asked .1)))
+      ∙ sym (written after out (form-accepted (within .0, within .1) after out below (asked .1)))

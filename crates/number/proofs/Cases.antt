@@ -13,7 +13,7 @@ use Rattle.refusal.specs.declared.Verdict.{Verdict}
 use Rattle.refusal.specs.Order.{judge}
 use Rattle.triangle.specs.Count.{N}
 use Rattle.schedule.specs.Schedule.{ones, zeros, Schedule, isSchedule, Lists}
-use Rattle.schedule.proofs.Hand.{plays, plays-schedule}
+use Rattle.schedule.proofs.Cases.{fits-11010, ahead-1001}
 use Rattle.circle.specs.Step.{shift, found, has01, movesNext, next}
 use Rattle.circle.specs.Walk.{steps, changed}
 use Rattle.number.specs.Number.{Fewest, same, numberOf, formOf}
@@ -22,41 +22,35 @@ use Rattle.number.specs.Ranking.{isSized, goesOn, Ranks}
 use Rattle.number.specs.Answers.{numberRows, onSheet}
 use Rattle.number.proofs.Theorems.{number-fewest, S-lists}
 
-schedule-11010 : Schedule 3 2 (1 ∷ 1 ∷ 0 ∷ 1 ∷ 0 ∷ [])
-unfolding ones zeros plays
-schedule-11010 = plays-schedule refl refl refl
+-- the third of the four forms of 4, 1, and the sixth of the nine of 4, 2
+number-11011 : numberOf 4 1 (1 ∷ 1 ∷ 0 ∷ 1 ∷ 1 ∷ []) ≡ 2
+unfolding N every firstFrom ones zeros isSchedule shift found has01 movesNext next steps changed
+number-11011 = refl
 
-schedule-1001 : Schedule 2 2 (1 ∷ 0 ∷ 0 ∷ 1 ∷ []) → ⊥
-unfolding ones zeros
-schedule-1001 p = omega (arith, p .ahead 3 (omega arith))
+number-110101 : numberOf 4 2 (1 ∷ 1 ∷ 0 ∷ 1 ∷ 0 ∷ 1 ∷ []) ≡ 5
+unfolding N every firstFrom ones zeros isSchedule shift found has01 movesNext next steps changed
+number-110101 = refl
+
+form-4-1-2 : formOf 4 1 2 ≡ 1 ∷ 1 ∷ 0 ∷ 1 ∷ 1 ∷ []
+unfolding every firstFrom ones zeros isSchedule shift found has01 movesNext next steps
+form-4-1-2 = refl
+
+form-4-2-5 : formOf 4 2 5 ≡ 1 ∷ 1 ∷ 0 ∷ 1 ∷ 0 ∷ 1 ∷ []
+unfolding every firstFrom ones zeros isSchedule shift found has01 movesNext next steps
+form-4-2-5 = refl
 
 -- 11010 is two steps from 11100; one step leads to another form, and seven lead there again
-number-11010 : numberOf 3 2 (1 ∷ 1 ∷ 0 ∷ 1 ∷ 0 ∷ []) ≡ 2
-unfolding N every firstFrom ones zeros isSchedule shift found has01 movesNext next steps changed
-number-11010 = refl
-
-number-10101 : numberOf 3 2 (1 ∷ 0 ∷ 1 ∷ 0 ∷ 1 ∷ []) ≡ 3
-unfolding N every firstFrom ones zeros isSchedule shift found has01 movesNext next steps changed
-number-10101 = refl
-
-form-2 : formOf 3 2 2 ≡ 1 ∷ 1 ∷ 0 ∷ 1 ∷ 0 ∷ []
-unfolding every firstFrom ones zeros isSchedule shift found has01 movesNext next steps
-form-2 = refl
-
-form-3 : formOf 3 2 3 ≡ 1 ∷ 0 ∷ 1 ∷ 0 ∷ 1 ∷ []
-unfolding every firstFrom ones zeros isSchedule shift found has01 movesNext next steps
-form-3 = refl
-
 fewest-2 : Fewest 3 2 (1 ∷ 1 ∷ 0 ∷ 1 ∷ 0 ∷ []) 2
 unfolding N every firstFrom ones zeros isSchedule shift found has01 movesNext next steps changed
-fewest-2 = number-fewest schedule-11010
+fewest-2 = number-fewest fits-11010
 
 fewest-1 : Fewest 3 2 (1 ∷ 1 ∷ 0 ∷ 1 ∷ 0 ∷ []) 1 → ⊥
 unfolding every firstFrom ones zeros isSchedule shift found has01 movesNext next steps
 fewest-1 p = let clash : _≡_ {A = ℕ} 0 1 = ap (λ (l : List ℕ). getD l 1 0) (p .leads) in omega arith
 
 fewest-7 : Fewest 3 2 (1 ∷ 1 ∷ 0 ∷ 1 ∷ 0 ∷ []) 7 → ⊥
-fewest-7 p = p .none-before 2 (omega arith) form-2
+unfolding every firstFrom ones zeros isSchedule shift found has01 movesNext next steps
+fewest-7 p = p .none-before 2 (omega arith) refl
 
 -- equal lists; another beat; one beat more
 same-101 : same (1 ∷ 0 ∷ 1 ∷ []) (1 ∷ 0 ∷ 1 ∷ []) ≡ true
@@ -135,19 +129,20 @@ one-too-many = refl
 -- 11010 is whole and has the number 2, and no other; 1001 is not whole
 ranks-2 : Ranks 3 2 (1 ∷ 1 ∷ 0 ∷ 1 ∷ 0 ∷ []) true 2
 unfolding N every firstFrom ones zeros isSchedule shift found has01 movesNext next steps changed
-ranks-2 = ((omega arith, omega arith), schedule-11010, refl)
+ranks-2 = ((omega arith, omega arith), fits-11010, refl)
 
 ranks-not-3 : Ranks 3 2 (1 ∷ 1 ∷ 0 ∷ 1 ∷ 0 ∷ []) true 3 → ⊥
-ranks-not-3 p = omega (arith, p .2, number-11010)
+unfolding N every firstFrom ones zeros isSchedule shift found has01 movesNext next steps changed
+ranks-not-3 p = let clash : _≡_ {A = ℕ} 3 2 = p .2 in omega arith
 
 ranks-whole : Ranks 3 2 (1 ∷ 1 ∷ 0 ∷ 1 ∷ 0 ∷ []) false 2 → ⊥
-ranks-whole f = f (omega arith, omega arith) schedule-11010
+ranks-whole f = f (omega arith, omega arith) fits-11010
 
 ranks-1001 : Ranks 2 2 (1 ∷ 0 ∷ 0 ∷ 1 ∷ []) false 0
-ranks-1001 a p = schedule-1001 p
+ranks-1001 a p = ahead-1001 p
 
 ranks-not-1001 : (n : ℕ) → Ranks 2 2 (1 ∷ 0 ∷ 0 ∷ 1 ∷ []) true n → ⊥
-ranks-not-1001 n p = schedule-1001 (p .1)
+ranks-not-1001 n p = ahead-1001 (p .1)
 
 -- the last number of 3, 2, and one past it
 taken-4 : judge (numberRows 3 2 4) ≡ Verdict.Accepted

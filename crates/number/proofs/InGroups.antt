@@ -4,7 +4,7 @@
 --     group-run, groups-run            a group, and the groups one after the other
 --     Placed, S-placed                 S has N(t, s) forms, of the ranks 1, 2, .., N − 1, and 0 at its end
 -- Assumes nothing.
-use mathlib.Core.Bool.{true, false, false≢true}
+use mathlib.Core.Bool.{true, false≢true}
 use mathlib.Core.List.{List, [], _∷_, _++_, map, reverse, reverseAux, reverseAux-append}
 use mathlib.Core.Path.{_≡_, refl, _∙_, ap, sym, subst}
 use Prim.Native.Nat.{ℕ, zero, suc, pred, _+_, _-_, _≤_, _<_}

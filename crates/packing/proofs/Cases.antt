@@ -63,11 +63,7 @@ empty : lineOf (4 ∷ 0 ∷ 2 ∷ 0 ∷ 0 ∷ 0 ∷ []) ≡ 48 ∷ 32 ∷ 48 ∷
 unfolding valueOf tabulate N digits decimal beatText every firstFrom ones zeros isSchedule shift found has01 movesNext next steps changed
 empty = refl
 
--- a single byte prints refused 9 0, is not passed over, and ends the list
-cut-line : lineOf (12 ∷ []) ≡ 114 ∷ 101 ∷ 102 ∷ 117 ∷ 115 ∷ 101 ∷ 100 ∷ 32 ∷ 57 ∷ 32 ∷ 48 ∷ 10 ∷ []
-unfolding valueOf digits decimal
-cut-line = refl
-
+-- a single byte is not passed over, and ends the list
 cut-passed : passed (12 ∷ []) ≡ 0
 unfolding valueOf
 cut-passed = refl

@@ -1,13 +1,13 @@
 -- From what reading answers to the line that is listed.
 --     Ordered, ordered     what an accepted reading says of the record, and of the beats in the room
---     Turned-down, turned-down     what a refused reading says of it
+--     turned-down          what a refused reading says of it
 --     list-accepted, list-refused     the line that was written is the record's
 --     listed-within        what is passed over lies within the slice, and the line within what was lent
 -- Assumes nothing.
 use mathlib.Core.Bool.{Bool, true, false, cond, _||_}
-use mathlib.Core.List.{List, _∷_, _++_}
+use mathlib.Core.List.{List, _++_}
 use mathlib.Core.Path.{_≡_, refl, sym, _∙_, ap, ap₂, subst}
-use Prim.Native.Nat.{ℕ, _+_, _≤_, _<_}
+use Prim.Native.Nat.{ℕ, _+_, _≤_}
 use native.Mathlib.Nat.{zero-add}
 use native.Mathlib.Omega.{arith}
 use lib.Dec.{eqb}
@@ -20,23 +20,18 @@ use Rattle.refusal.specs.Order.{judge}
 use Rattle.triangle.specs.Count.{largest}
 use Rattle.counts.specs.Counts.{Allowed}
 use Rattle.schedule.specs.Schedule.{Schedule}
-use Rattle.circle.specs.Answers.{left}
 use Rattle.record.specs.Record.{long, kindIn, ups, downs, body, cut, meant, meantNumber, readRows, eaten}
 use Rattle.order.specs.declared.Order.{Order}
 use Rattle.order.specs.declared.Reading.{Reading}
 use Rattle.reading.specs.Reading.{told, leaving, readAnswer, readLeft}
 use Rattle.order.specs.Parts as said
+use Rattle.reading.proofs.Verdicts.{told-verdict}
 use Rattle.reading.proofs.Heads.{whole-long}
 use Rattle.reading.proofs.Answering.{read-cut}
 use Rattle.reading.proofs.Meaning.{Means, read-means}
 use Rattle.line.specs.Line.{acceptedLine, refusedLine}
 use Rattle.line.specs.Written.{Written}
 use Rattle.packing.specs.Listed.{verdictOn, text, lineOf, passing, passed, ending, ends, widest, Listed, listed, cramped}
-
--- the verdict of an answer
-told-verdict : (t s n l : ℕ) (v : Verdict) → said.verdict (told t s n l v) ≡ v
-told-verdict t s n l Verdict.Accepted = refl
-told-verdict t s n l (Verdict.Refused why) = refl
 
 module _ (src room : List ℕ) (h : length room ≡ largest + largest) where
   abbrev number : ℕ

@@ -5,12 +5,11 @@
 --     read-kind            behind them the rows of the kind decide
 -- Assumes nothing.
 use mathlib.Core.Bool.{Bool, true, false, not}
-use mathlib.Core.List.{List, [], _∷_, _++_}
+use mathlib.Core.List.{List, _∷_, _++_}
 use mathlib.Core.Path.{_≡_, sym, _∙_, ap}
 use Prim.Native.Nat.{ℕ, _+_, _≤_, _<_}
 use borrow.Author.Tests.{lt-ltb, le-ltb, eq-eqb, ne-eqb}
-use lib.Dec.{eqb, ltb}
-use lib.ListN.{length, take, drop}
+use lib.ListN.{drop}
 use Rattle.refusal.specs.declared.Refusal.the-variants.{WrongSize, UnknownKind, NoRoom, CutShort}
 use Rattle.refusal.specs.declared.Verdict.{Verdict}
 use Rattle.refusal.specs.Order.{Row, _⇒_, judge}
@@ -20,7 +19,7 @@ use Rattle.circle.specs.Answers.{left}
 use Rattle.number.specs.Answers.{numberRows}
 use Rattle.number.specs.Number.{numberOf, formOf}
 use Rattle.record.specs.Bytes.{valueOf, unpacked}
-use Rattle.record.specs.Record.{Kind, numbered, beaten, long, ups, downs, body, bodyRows, kindRows, headRows, readRows, kindIn, isUnknown, cut}
+use Rattle.record.specs.Record.{numbered, beaten, long, ups, downs, body, bodyRows, kindRows, readRows, kindIn, isUnknown, cut}
 use Rattle.order.specs.declared.Reading.{Reading}
 use Rattle.reading.specs.Reading.{told, reading, leaving}
 

@@ -3,26 +3,23 @@
 --     kind-means           an accepted record of a known kind means a schedule of allowed counts and its number
 --     read-means           the same of an accepted slice
 -- Assumes nothing.
-use mathlib.Core.Bool.{Bool, true, false, true≢false}
+use mathlib.Core.Bool.{false, true≢false}
 use mathlib.Core.List.{List, _++_}
-use mathlib.Core.Path.{_≡_, refl, sym, _∙_, ap}
+use mathlib.Core.Path.{_≡_, refl, sym, _∙_}
 use Prim.Native.Nat.{ℕ, _+_, _≤_, _<_}
 use native.Mathlib.Decide.{decLt, ℕ-discrete}
 use native.Mathlib.Omega.{arith}
 use borrow.Author.Tests.{eq-eqb, ne-eqb}
-use lib.Dec.{eqb}
-use lib.ListN.{length}
-use Rattle.refusal.specs.declared.Refusal.{Refusal}
 use Rattle.refusal.specs.declared.Verdict.{Verdict}
 use Rattle.refusal.specs.Order.{judge}
 use Rattle.refusal.proofs.Order.{judge-front, judge-back, both}
-use Rattle.triangle.specs.Count.{N, largest}
+use Rattle.triangle.specs.Count.{N}
 use Rattle.counts.specs.Counts.{Allowed, countRows}
 use Rattle.counts.proofs.Sizes.{counts-allowed}
 use Rattle.schedule.specs.Schedule.{Schedule}
 use Rattle.schedule.specs.Check.{checked}
 use Rattle.schedule.proofs.Theorems.{accepted-schedule}
-use Rattle.number.specs.Number.{numberOf, formOf}
+use Rattle.number.specs.Number.{numberOf}
 use Rattle.number.proofs.Numbers.{form-schedule}
 use Rattle.number.proofs.Theorems.{form-number}
 use Rattle.number.proofs.Verdicts.{number-allowed}

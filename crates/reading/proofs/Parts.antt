@@ -4,7 +4,7 @@
 --     unused-packed        packed beats leave no unused bit set
 --     read-facts           what an accepted slice has: room, a whole record, a known kind, and the rows of the kind
 -- Assumes nothing.
-use mathlib.Core.Bool.{Bool, false}
+use mathlib.Core.Bool.{false}
 use mathlib.Core.List.{List, [], _∷_, _++_, List·Memᴰ·head, List·Memᴰ·tail}
 use mathlib.Core.Path.{_≡_, refl, sym, _∙_, ap, ap₂}
 use Prim.Native.Nat.{ℕ, zero, suc, _+_, _-_, _*_, _/_, _%_, _^_, _≤_, _<_}
@@ -14,9 +14,8 @@ use native.Mathlib.Omega.{arith}
 use borrow.Author.Tests.{ltb-false}
 use lib.ListN.{length, getD, take, drop, List·getD-eq-default}
 use lib.Seq.{getD-drop}
-use Rattle.refusal.specs.declared.Refusal.the-variants.{UnknownKind, WrongSize, CutShort, NoRoom}
 use Rattle.refusal.specs.declared.Verdict.{Verdict}
-use Rattle.refusal.specs.Order.{_⇒_, judge}
+use Rattle.refusal.specs.Order.{judge}
 use Rattle.refusal.proofs.Order.{judge-front, judge-back}
 use Rattle.refusal.proofs.Theorems.{accepted-none}
 use Rattle.triangle.specs.Count.{largest}

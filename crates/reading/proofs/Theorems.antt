@@ -5,10 +5,10 @@
 --     one-record           within a kind a form has one record [B5]
 --     kinds-agree          the records of a form in kind 1 and kind 2 read the same, but for their length [B6]
 -- Assumes nothing.
-use mathlib.Core.Bool.{Bool, true, false, true≢false}
+use mathlib.Core.Bool.{false, true≢false}
 use mathlib.Core.List.{List, [], _∷_, _++_, List·Memᴰ·head}
 use mathlib.Core.Path.{_≡_, refl, sym, _∙_, ap, ap₂}
-use Prim.Native.Nat.{ℕ, zero, suc, _+_, _-_, _^_, _≤_, _<_}
+use Prim.Native.Nat.{ℕ, zero, suc, _+_, _-_, _≤_, _<_}
 use native.Mathlib.Decide.{decLt}
 use native.Mathlib.Omega.{arith}
 use borrow.Author.Tests.{le-ltb, eq-eqb}
@@ -18,7 +18,7 @@ use Rattle.refusal.specs.declared.Verdict.{Verdict}
 use Rattle.refusal.specs.Order.{judge}
 use Rattle.refusal.proofs.Order.{judge-front, judge-accepted}
 use Rattle.refusal.proofs.Theorems.{accepted-none}
-use Rattle.triangle.specs.Count.{N, largest}
+use Rattle.triangle.specs.Count.{largest}
 use Rattle.triangle.proofs.Theorems.{fits-64-bits}
 use Rattle.counts.specs.Counts.{Allowed, countRows}
 use Rattle.counts.proofs.Sizes.{allowed-counts}

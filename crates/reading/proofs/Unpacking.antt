@@ -3,14 +3,14 @@
 --     packed-unpacked     bytes whose unused bits are 0 are what packing their beats gives
 -- Assumes nothing.
 use mathlib.Core.List.{List}
-use mathlib.Core.Path.{_≡_, refl, sym, _∙_, ap, ap₂}
+use mathlib.Core.Path.{_≡_, sym, _∙_, ap, ap₂}
 use Prim.Native.Nat.{ℕ, zero, suc, _+_, _-_, _*_, _/_, _%_, _^_, _≤_, _<_}
-use native.Mathlib.Decide.{decLt, ℕ-discrete}
+use native.Mathlib.Decide.{decLt}
 use native.Mathlib.Nat.{div-one}
 use native.Mathlib.Omega.{arith}
 use lib.ListN.{length, getD, drop, List·getD-eq-default}
 use lib.Seq.{ext-getD, getD-drop}
-use Rattle.record.specs.Bytes.{spell, bytesFor, packed, beatAt, unpacked, unused, tabulate}
+use Rattle.record.specs.Bytes.{spell, bytesFor, packed, beatAt, unpacked, unused}
 use Rattle.record.proofs.Writing.{packed-size}
 use Rattle.record.proofs.Packing.{length-tabulate, getD-tabulate, shift-bit, shift-on, shift-left}
 

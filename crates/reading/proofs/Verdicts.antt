@@ -1,25 +1,26 @@
 -- The verdicts of reading, row by row, and what a reader answers and leaves by them.
+--     told-verdict         an answer has the verdict that it was made from
 --     told-refused, told-why, told-accepted     the answer of a verdict that is known
---     late-counts, late-number, late-body, late-check     refusals after which the record's bytes are consumed
+--     late-counts, late-number, late-check     refusals after which the record's bytes are consumed
 --     left-refused, left-accepted     what is left by a verdict that is known
 --     form-number          a form of a number in exactly its room is refused as the number is
 --     hand-checked         beats that are zeros and ones, of the right length and of allowed counts, are refused by 5 and 6 only
 --     spoiled-bits, spoiled-not       the row for kind 2's L and unused bits
 --     unpacked-beats       unpacked beats are zeros and ones
 -- Assumes nothing.
-use mathlib.Core.Bool.{Bool, true, false, not, cond, _||_}
+use mathlib.Core.Bool.{Bool, true, false, not}
 use mathlib.Core.List.{List, [], _∷_, _++_}
 use mathlib.Core.Path.{_≡_, refl, sym, _∙_, ap, subst}
-use Prim.Native.Nat.{ℕ, _+_, _%_, _≤_, _<_}
+use Prim.Native.Nat.{ℕ, _+_, _≤_, _<_}
 use native.Mathlib.Omega.{arith}
 use borrow.Author.Tests.{eq-eqb, ne-eqb, le-ltb}
-use lib.Dec.{eqb, ltb}
+use lib.Dec.{eqb}
 use lib.ListN.{length, getD, take, drop, take-append-drop}
 use Rattle.refusal.specs.declared.Refusal.{Refusal}
 use Rattle.refusal.specs.declared.Refusal.the-variants.{WrongSize, WrongLength, BadBeat}
 use Rattle.refusal.specs.declared.Verdict.{Verdict}
 use Rattle.refusal.specs.Order.{Row, _⇒_, judge}
-use Rattle.refusal.proofs.Order.{judge-refused, judge-accepted}
+use Rattle.refusal.proofs.Order.{judge-accepted}
 use Rattle.counts.specs.Counts.{Allowed, countRows}
 use Rattle.counts.proofs.Sizes.{allowed-counts}
 use Rattle.schedule.specs.Check.{badBeat, handRows, playRows, beatRows, checkRows, checked}
@@ -28,9 +29,10 @@ use Rattle.circle.specs.Answers.{left}
 use Rattle.number.specs.Answers.{numberRows, formRows}
 use Rattle.number.proofs.Verdicts.{form-refused, form-taken}
 use Rattle.record.specs.Bytes.{bytesFor, beatAt, unpacked, unused}
-use Rattle.record.specs.Record.{Kind, beaten, spoiled, bodyRows, eaten}
+use Rattle.record.specs.Record.{beaten, bodyRows, eaten}
 use Rattle.record.proofs.Packing.{length-tabulate, getD-tabulate}
 use Rattle.order.specs.declared.Reading.{Reading}
+use Rattle.order.specs.Parts as said
 use Rattle.reading.specs.Reading.{told}
 
 -- what holds of every reason of an order holds of the one that it gives
@@ -55,6 +57,10 @@ late-number t s n = given Late (numberRows t s n) (λ l. refl, (λ l. refl, (λ 
 
 pub late-check : (t s : ℕ) (b : List ℕ) {why : Refusal} → checked t s b ≡ Verdict.Refused why → Late why
 late-check t s b = given Late (checkRows t s b) (λ l. refl, (λ l. refl, (λ l. refl, (λ l. refl, (λ l. refl, (λ l. refl, tt))))))
+
+pub told-verdict : (t s n l : ℕ) (v : Verdict) → said.verdict (told t s n l v) ≡ v
+told-verdict t s n l Verdict.Accepted = refl
+told-verdict t s n l (Verdict.Refused why) = refl
 
 module _ {v : Verdict} {why : Refusal} (e : v ≡ Verdict.Refused why) where
   pub told-refused : Late why → (t s n l : ℕ) → Reading.Refused why (2 + l) ≡ told t s n l v

@@ -15,7 +15,6 @@ use Rattle.refusal.specs.Order.{judge}
 use Rattle.triangle.specs.Count.{largest}
 use Rattle.circle.specs.Answers.{left}
 use Rattle.record.specs.Record.{Kind, long, kindIn, ups, downs, body, cut, meant, meantNumber, readRows, eaten}
-use Rattle.order.specs.declared.Order.{Order}
 use Rattle.order.specs.declared.Reading.{Reading}
 
 abbrev pub told : ℕ → ℕ → ℕ → ℕ → Verdict → Reading

@@ -1,8 +1,8 @@
-// Reading a record of each kind, whose length and kind are known. The contracts cite specs/Reading, and
-// specs/Bytes and specs/Record of `record`; each requires a whole record and room for the longest schedule.
+// The parts of reading a record, and the reader of each kind. The contracts cite specs/Reading, and specs/Bytes
+// and specs/Record of `record`; `numbered` and `beaten` require a whole record and room for the longest schedule.
 ghost use mathlib.Core.Path.{_≡_};
 ghost use mathlib.Core.List.{_++_};
-ghost use Prim.Native.Nat.{_+_, _≤_, _<_};
+ghost use Prim.Native.Nat.{_+_, _≤_};
 ghost use lib.ListN.{length, take, drop};
 ghost use Rattle.refusal.specs.Order.{judge};
 ghost use Rattle.triangle.specs.Count.{largest};

@@ -107,9 +107,6 @@ kind-2 = refl
 kind-0 : kindOf 0 ≡ unknown
 kind-0 = refl
 
-kind-65535 : kindOf 65535 ≡ unknown
-kind-65535 = refl
-
 known-2 : isUnknown beaten ≡ false
 known-2 = refl
 

@@ -2,7 +2,7 @@
 --     length-tabulate, getD-tabulate     a table's length and entries
 --     spell-below          k beats spell a number below 2^k
 --     Octet, octet-start, octet-more, octet-all          the loop that spells a byte
---     Packed, packed-start, packed-more, packed-all      the loop that packs
+--     Filled, filled-start, filled-more, filled-all      a loop that fills a list by a rule, as the one that packs does
 --     turned-new, turned-old     the byte in hand
 --     Unpacked, unpacked-start, unpacked-more, unpacked-all     the loop that unpacks
 --     all-beats            the beats of a schedule are zeros and ones, read past their end as well
@@ -19,8 +19,8 @@ use native.Mathlib.Omega.{arith}
 use borrow.Author.Tests.{eq-eqb, ne-eqb}
 use lib.Dec.{eqb}
 use lib.ListN.{length, getD, set, take, drop, length-append, length-set, List·getD-eq-default}
-use lib.Seq.{getD-drop, getD-at, getD-append-seam, take-all, take-suc-set}
-use Rattle.record.specs.Bytes.{spell, tabulate, bytesFor, packed, beatAt, unpacked, unused, turned}
+use lib.Seq.{getD-drop, getD-at, take-all, take-suc-set}
+use Rattle.record.specs.Bytes.{spell, tabulate, beatAt, unpacked, unused, turned}
 
 pub length-tabulate : (n : ℕ) (f : ℕ → ℕ) → length (tabulate n f) ≡ n
 unfolding tabulate

@@ -4,7 +4,6 @@
 --     record-made          head and payload make the record, and what was behind stays
 --     write-refused, write-short, write-taken     the verdict on writing a known kind, from the check's
 --     write-unknown, write-kind          the kind's row in front of the others
---     answer-refused, answer-value       what an answer says of the verdict it was made by
 --     kind-other           a number that is no kind's
 -- Assumes nothing.
 use mathlib.Core.Bool.{Bool, true, false}
@@ -15,11 +14,9 @@ use native.Mathlib.Omega.{arith}
 use borrow.Author.Tests.{lt-ltb, le-ltb}
 use lib.ListN.{length, set, take, drop}
 use lib.Seq.{drop-drop}
-use Rattle.refusal.specs.declared.Answer.{Answer}
 use Rattle.refusal.specs.declared.Refusal.{Refusal}
 use Rattle.refusal.specs.declared.Refusal.the-variants.{UnknownKind, NoRoom}
 use Rattle.refusal.specs.declared.Verdict.{Verdict}
-use Rattle.refusal.specs.Answer.{answer}
 use Rattle.refusal.specs.Order.{Row, _⇒_, judge}
 use Rattle.refusal.proofs.Order.{judge-refused, judge-accepted}
 use Rattle.schedule.specs.Check.{checkRows, checked}
@@ -90,15 +87,6 @@ module _ (t s : ℕ) (b : List ℕ) where
 
   pub beaten-size : length (recordOf 2 t s b) ≡ 6 + bytesFor (length b)
   beaten-size = record-size 2 t s b ∙ ap (λ (j : ℕ). 6 + j) (packed-size b)
-
--- what an answer says of the verdict it was made by
-pub answer-refused : (v : Verdict) (n : ℕ) {why : Refusal} → answer v n ≡ Answer.Refused why → v ≡ Verdict.Refused why
-answer-refused Verdict.Accepted n e = let z : _≡_ {A = ℕ} 0 1 = cc in absurd (omega arith)
-answer-refused (Verdict.Refused first) n e = cc
-
-pub answer-value : (v : Verdict) (n : ℕ) {m : ℕ} → answer v n ≡ Answer.Value m → (v ≡ Verdict.Accepted) × (m ≡ n)
-answer-value Verdict.Accepted n e = (refl, cc)
-answer-value (Verdict.Refused first) n e = let z : _≡_ {A = ℕ} 0 1 = cc in absurd (omega arith)
 
 pub kind-other : (k : ℕ) → ((k ≡ 1) → ⊥) → ((k ≡ 2) → ⊥) → kindOf k ≡ unknown
 kind-other zero a b = refl

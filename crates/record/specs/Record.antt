@@ -6,7 +6,7 @@
 --     writeAnswer, writeLeft     what writing answers, 2 + L, and leaves: the record, and behind it what was there; kindAnswer and kindLeft
 --                      where the kind is known
 --     A record, read:
---     long, kind, ups, downs, body     the parts of the record that a slice starts with
+--     long, kindIn, ups, downs, body     the parts of the record that a slice starts with
 --     cut              the slice has no whole record, or L is above 1,020 [D1c]
 --     misfit           L is wrong for the kind
 --     spoiled          kind 2: L is not exactly what the counts need, or an unused bit is not 0

@@ -1,7 +1,7 @@
 // Writing a record of each kind. The contracts cite specs/Record.
 ghost use mathlib.Core.List.{_∷_, _++_};
 ghost use mathlib.Core.Path.{_≡_};
-ghost use Prim.Native.Nat.{_+_, _≤_, _<_};
+ghost use Prim.Native.Nat.{_≤_, _<_};
 ghost use lib.ListN.{length, drop};
 ghost use Rattle.record.specs.Bytes.{lowFirst};
 ghost use Rattle.record.specs.Record.{kindAnswer, kindLeft};

@@ -3,9 +3,10 @@
 --     refused-given, given-refused     an order refuses so exactly if that is given [R11]
 --     accepted-none, none-accepted     it accepts exactly if no row holds
 --     refused-number      a refusal's number is 1 to 13, so 0 is left for an accepted call
---     accepted-zero       a verdict answers 0 exactly if it accepts
+--     accepted-zero       a verdict that answers 0 accepts; that one which accepts answers 0 is `accepted-refusal` of Cases
 --     same-refusal        number and place say which refusal it is [R2]
 --     verdict-answer      an answer has the verdict that it was made from
+--     answer-refused, answer-value     what an answer says of the verdict that it was made from
 -- Assumes nothing.
 use mathlib.Core.Bool.{true, false, true≢false}
 use mathlib.Core.List.{List, [], _∷_, _++_, List·Memᴰ, List·Memᴰ·head, List·Memᴰ·tail, List·Memᴰ·cases-cons, List·Memᴰ·not-nil}
@@ -14,6 +15,7 @@ use mathlib.Core.Path.{_≡_, refl, _∙_, ap, ap₂, sym}
 use Prim.Native.Nat.{ℕ, _≤_}
 use native.Mathlib.Omega.{arith}
 use lib.ListN.{getD}
+use Rattle.refusal.specs.declared.Answer.{Answer}
 use Rattle.refusal.specs.declared.Refusal.{Refusal}
 use Rattle.refusal.specs.declared.Refusal.the-variants.{TooManyTasks, MoreDownThanUp, WrongLength, BadBeat, EmptyHand, WrongTakeUps, NoSuchNumber, NoSuchTables, CutShort, UnknownKind, WrongSize, NoRoom, RunTooLong}
 use Rattle.refusal.specs.declared.Verdict.{Verdict}
@@ -96,3 +98,11 @@ accepted-zero (Verdict.Refused why) e = absurd (omega (arith, named-back why .1)
 pub verdict-answer : (v : Verdict) (n : ℕ) → verdict (answer v n) ≡ v
 verdict-answer Verdict.Accepted n = refl
 verdict-answer (Verdict.Refused why) n = refl
+
+pub answer-refused : (v : Verdict) (n : ℕ) {why : Refusal} → answer v n ≡ Answer.Refused why → v ≡ Verdict.Refused why
+answer-refused Verdict.Accepted n e = let z : _≡_ {A = ℕ} 0 1 = cc in absurd (omega arith)
+answer-refused (Verdict.Refused first) n e = cc
+
+pub answer-value : (v : Verdict) (n : ℕ) {m : ℕ} → answer v n ≡ Answer.Value m → (v ≡ Verdict.Accepted) × (m ≡ n)
+answer-value Verdict.Accepted n e = (refl, cc)
+answer-value (Verdict.Refused first) n e = let z : _≡_ {A = ℕ} 0 1 = cc in absurd (omega arith)

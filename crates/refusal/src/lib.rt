@@ -1,6 +1,7 @@
-// The refusals of document 01, "Refusal numbers", one named case for each row of its table, and the
-// two kinds of answer that can be one. Every function of this repository that can refuse answers one
-// of these, and passes a refusal on as it got it. The contracts cite specs/Refusal and specs/Answer.
+// The refusals of document 01, "Refusal numbers", one named case for each row of its table, and two kinds
+// of answer that can be one; the third, of reading a record, is `Reading` of the crate `order`. Every function
+// of the library that can refuse answers one of the three, or to a C host its number, and passes a refusal
+// on as it got it. The contracts cite specs/Refusal and specs/Answer.
 ghost use mathlib.Core.Path.{_≡_};
 ghost use Rattle.refusal.specs.Refusal.{numberOf, placeOf};
 ghost use Rattle.refusal.specs.Answer as answer;

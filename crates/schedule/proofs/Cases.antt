@@ -37,7 +37,7 @@ no-zeros : zeros (1 ∷ 2 ∷ []) ≡ 0
 unfolding zeros
 no-zeros = refl
 
-fits-11010 : Schedule 3 2 (1 ∷ 1 ∷ 0 ∷ 1 ∷ 0 ∷ [])
+pub fits-11010 : Schedule 3 2 (1 ∷ 1 ∷ 0 ∷ 1 ∷ 0 ∷ [])
 unfolding ones zeros plays
 fits-11010 = plays-schedule refl refl refl
 
@@ -55,7 +55,7 @@ taken-111 : Schedule 2 1 (1 ∷ 1 ∷ 1 ∷ []) → ⊥
 unfolding ones
 taken-111 p = omega (arith, p .taken)
 
-ahead-1001 : Schedule 2 2 (1 ∷ 0 ∷ 0 ∷ 1 ∷ []) → ⊥
+pub ahead-1001 : Schedule 2 2 (1 ∷ 0 ∷ 0 ∷ 1 ∷ []) → ⊥
 unfolding ones zeros
 ahead-1001 p = omega (arith, p .ahead 3 (omega arith))
 

@@ -1,5 +1,6 @@
 // The check of a schedule: document 01, "A schedule" and "Refusal numbers". It reads the lent beats
-// and writes nothing. The contracts cite specs/Check; proofs/Theorems says what its verdicts mean.
+// and writes nothing. The contracts cite specs/Check, that of skip specs/Skip;
+// proofs/Theorems says what the verdicts mean.
 ghost use mathlib.Core.Path.{_≡_};
 ghost use Prim.Native.Nat.{ℕ, _+_, _≤_, _<_};
 ghost use lib.ListN.{length, take, getD};

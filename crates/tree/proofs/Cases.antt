@@ -37,7 +37,7 @@ other-parent b q = by (q .tree) (q .parent)
     by leaf e = unfold parents in omega (arith, ap length e)
     by (node a c) e = unfold parents in omega (arith, ap (λ (l : List ℕ). getD l 0 0) e)
 
--- two nodes: the second is the left child in 1100, and the right one in 1010; left and right are not exchanged
+-- two nodes: the second is the left child in 1100, and the right one in 1010
 left-child : Has 2 (1 ∷ 1 ∷ 0 ∷ 0 ∷ []) (2 ∷ 0 ∷ []) (0 ∷ 0 ∷ []) (0 ∷ 1 ∷ [])
 unfolding size word root lefts rights parents
 left-child = record { tree = node (node leaf leaf) leaf; nodes = refl; beats = refl; left = refl; right = refl; parent = refl }
@@ -46,10 +46,7 @@ right-child : Has 2 (1 ∷ 0 ∷ 1 ∷ 0 ∷ []) (0 ∷ 0 ∷ []) (2 ∷ 0 ∷ [
 unfolding size word root lefts rights parents
 right-child = record { tree = node leaf (node leaf leaf); nodes = refl; beats = refl; left = refl; right = refl; parent = refl }
 
-not-exchanged : Has 2 (1 ∷ 1 ∷ 0 ∷ 0 ∷ []) (0 ∷ 0 ∷ []) (2 ∷ 0 ∷ []) (0 ∷ 1 ∷ []) → ⊥
-not-exchanged q = omega (arith, ap (λ (l : List ℕ). getD l 0 0) (one-tables q left-child .0))
-
--- nor is either of them another
+-- 1100 has no other left children and no other right ones
 other-left : Has 2 (1 ∷ 1 ∷ 0 ∷ 0 ∷ []) (0 ∷ 0 ∷ []) (0 ∷ 0 ∷ []) (0 ∷ 1 ∷ []) → ⊥
 other-left q = omega (arith, ap (λ (l : List ℕ). getD l 0 0) (one-tables q left-child .0))
 

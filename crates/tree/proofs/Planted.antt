@@ -8,17 +8,18 @@
 -- Assumes nothing.
 use mathlib.Core.List.{List, [], _∷_, _++_, reverse, reverse-append, append-assoc, append-nil}
 use mathlib.Core.Path.{_≡_, refl, sym, _∙_, ap, ap₂, subst}
-use Prim.Native.Nat.{ℕ, zero, suc, _+_, _-_, _≤_, _<_}
+use Prim.Native.Nat.{ℕ, zero, suc, _+_, _≤_, _<_}
 use native.Mathlib.Numerals.{add-one}
 use native.Mathlib.Omega.{arith}
 use lib.ListN.{length, getD, set, take, drop, length-append, length-set, take-append-drop}
-use lib.Seq.{take-suc, take-suc-set, drop-cons, drop-length, drop-at, drop-set-lt, getD-set-same, length-take-le, set-split}
+use lib.Seq.{take-suc, take-suc-set, drop-cons, drop-length, drop-at, length-take-le, set-split}
 use Rattle.schedule.specs.Schedule.{ones, zeros, Schedule}
+use Rattle.schedule.proofs.Tally.{ones-append, zeros-append}
 use Rattle.schedule.proofs.Hand.{schedule-zeros}
+use Rattle.schedule.proofs.Copied.{stored}
 use Rattle.tree.specs.Tree.{Tree, leaf, node, size, word, root, lefts, rights, parents}
 use Rattle.tree.specs.Planting.{adopted}
 use Rattle.tree.specs.Table.{Has}
-use Rattle.schedule.proofs.Tally.{ones-append, zeros-append}
 use Rattle.tree.proofs.Forest.{each, rootList, words, sizes, forest-count, forest-ones, each-leaf, root-node, left-node, right-node, parent-node, adopt-at, length-parents}
 
 -- the top of a stack
@@ -31,12 +32,6 @@ push st d v h = rw (take-suc-set st d v) (reverse-append (take d st) (v ∷ []))
 length-adopted : (c v : ℕ) (p : List ℕ) → length (adopted c v p) ≡ length p
 length-adopted zero v p = refl
 length-adopted (suc c) v p = length-set p c v
-
--- a table whose rows from k on are known, with one row more
-row : (l : List ℕ) (k v : ℕ) → k < length l → drop k (set l k v) ≡ v ∷ drop (suc k) l
-row l k v h =
-    drop-cons (set l k v) k 0 (omega (arith, length-set l k v))
-    ∙ rw (getD-set-same l k v 0 h, drop-set-lt (suc k) l k v (omega arith))
 
 pub record Planted (b : List ℕ) (n at k d : ℕ) (st l r p : List ℕ) : Type 0 where
   pub trees : List Tree
@@ -217,8 +212,8 @@ module _ {b : List ℕ} {n at before k e : ℕ} {st l r p : List ℕ} (u : Plant
     long-l = length-set l k x ∙ u .long-l;
     long-r = length-set r k y ∙ u .long-r;
     long-p = long-so;
-    left = row l k x in-l ∙ ap₂ (λ (i : ℕ) (v : List ℕ). i ∷ v) (roots .0) (u .left ∙ ap (each lefts (suc (suc k))) same) ∙ sym (left-node (suc k) a c ts);
-    right = row r k y in-r ∙ ap₂ (λ (i : ℕ) (v : List ℕ). i ∷ v) (roots .1) (u .right ∙ ap (each rights (suc (suc k))) same) ∙ sym (right-node (suc k) a c ts);
+    left = stored l k x in-l ∙ ap₂ (λ (i : ℕ) (v : List ℕ). i ∷ v) (roots .0) (u .left ∙ ap (each lefts (suc (suc k))) same) ∙ sym (left-node (suc k) a c ts);
+    right = stored r k y in-r ∙ ap₂ (λ (i : ℕ) (v : List ℕ). i ∷ v) (roots .1) (u .right ∙ ap (each rights (suc (suc k))) same) ∙ sym (right-node (suc k) a c ts);
     parent = ap₂ (λ (i j : ℕ). drop k (adopted i (suc k) (adopted j (suc k) (set p k 0)))) (roots .1) (roots .0)
         ∙ adopted-two p k a c ts in-p (u .parent ∙ ap (each (parents 0) (suc (suc k))) same);
   }

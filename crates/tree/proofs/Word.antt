@@ -5,7 +5,7 @@
 --     treeOf, word-tree         the tree of a closed schedule, read from the last beat to the first
 --     one-tree                  no other tree has its word
 -- Assumes nothing.
-use mathlib.Core.Bool.{true, false, false≢true}
+use mathlib.Core.Bool.{true, false≢true}
 use mathlib.Core.List.{List, [], _∷_, _++_, append-assoc, append-nil}
 use mathlib.Core.Path.{_≡_, refl, sym, _∙_, ap}
 use Prim.Native.Nat.{ℕ, zero, suc, _+_}

@@ -1,15 +1,12 @@
 -- `number::number_by` meets its contract: a schedule has its number, and what is none has the check's refusal. Assumes nothing.
 use mathlib.Core.Bool.{Bool, true, false}
-use mathlib.Core.List.{List}
 use mathlib.Core.Path.{_≡_, _∙_, ap, sym, subst}
-use Prim.Native.Nat.{ℕ}
 use borrow.Author.Needs.{needs}
 use Rattle.refusal.specs.declared.Answer.{Answer}
 use Rattle.refusal.specs.declared.Verdict.{Verdict}
 use Rattle.refusal.specs.Answer.{answer}
 use Rattle.schedule.proofs.Theorems.{accepted-schedule, schedule-accepted}
 use Rattle.number.specs.Number.{numberOf}
-use Rattle.number.specs.Answers.{numberAnswer}
 use Rattle.number.specs.Ranking.{Ranks}
 use Rattle.number.proofs.number_by.Statement.{statement}
 use Rattle.number.proofs.number_by.Tie as tie

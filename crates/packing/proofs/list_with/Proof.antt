@@ -9,7 +9,6 @@ use Rattle.triangle.specs.Count.{largest}
 use Rattle.record.specs.Record.{kindIn, ups, downs, body, meant}
 use Rattle.order.specs.declared.Order.{Order}
 use Rattle.line.specs.Line.{Beats}
-use Rattle.packing.specs.Listed.{widest}
 use Rattle.packing.proofs.Listing.{Ordered, ordered, turned-down, list-accepted, list-refused}
 use borrow.Author.Needs.{needs}
 use Rattle.packing.proofs.list_with.Statement.{statement}

@@ -4,12 +4,11 @@ use mathlib.Core.List.{List}
 use mathlib.Core.Path.{_≡_, refl, _∙_, ap, sym}
 use Prim.Native.Nat.{ℕ, _+_, _≤_}
 use native.Mathlib.Omega.{arith}
-use lib.ListN.{length, take, drop}
+use lib.ListN.{length}
 use Rattle.refusal.specs.declared.Verdict.{Verdict}
 use Rattle.refusal.specs.Order.{judge}
 use Rattle.triangle.specs.Count.{largest}
-use Rattle.record.specs.Bytes.{valueOf}
-use Rattle.record.specs.Record.{Kind, numbered, beaten, unknown, kindOf, kindIn, isUnknown, long, longest, cut, kindRows, readRows}
+use Rattle.record.specs.Record.{Kind, numbered, beaten, kindOf, kindIn, isUnknown, long, cut, kindRows, readRows}
 use Rattle.record.proofs.Writing.{kind-other}
 use Rattle.reading.specs.Reading.{Whole, reading, leaving, readAnswer, readLeft}
 use Rattle.reading.proofs.Heads.{whole-long}

@@ -1,12 +1,12 @@
 -- `reads::beaten` meets its contract: L is wrong for the kind, or the packed beats decide. Assumes nothing.
 use mathlib.Core.List.{List}
-use mathlib.Core.Path.{_≡_, refl, _∙_, ap, sym}
+use mathlib.Core.Path.{_≡_, refl, _∙_, ap}
 use Prim.Native.Nat.{ℕ, _+_, _-_, _≤_}
 use native.Mathlib.Omega.{arith}
 use lib.ListN.{length, take, drop, length-drop}
 use lib.Seq.{length-take-le}
 use Rattle.refusal.specs.declared.Refusal.the-variants.{WrongSize}
-use Rattle.record.specs.Record.{long, body, longest}
+use Rattle.record.specs.Record.{long, longest}
 use Rattle.order.specs.declared.Reading.{Reading}
 use Rattle.reading.proofs.Heads.{whole-long}
 use Rattle.reading.proofs.Verdicts.{told-refused, left-refused}

@@ -9,7 +9,6 @@ use lib.Seq.{length-take-le}
 use Rattle.refusal.specs.declared.Verdict.{Verdict}
 use Rattle.refusal.specs.Order.{judge}
 use Rattle.triangle.specs.Count.{largest}
-use Rattle.counts.specs.Counts.{countRows}
 use Rattle.counts.proofs.Sizes.{counts-allowed}
 use Rattle.circle.specs.Answers.{left}
 use Rattle.number.specs.Answers.{numberRows, formRows}

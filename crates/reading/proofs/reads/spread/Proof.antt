@@ -1,23 +1,22 @@
 -- `reads::spread` meets its contract: a refusal is that of the unused bits or of the beats, and leaves what was lent; else the beats are
 -- copied. Assumes nothing.
-use mathlib.Core.Bool.{Bool, true, false}
+use mathlib.Core.Bool.{true}
 use mathlib.Core.List.{List}
 use mathlib.Core.Path.{_≡_, refl, _∙_, ap, sym}
 use Prim.Native.Nat.{ℕ, _+_}
-use native.Mathlib.Omega.{arith}
 use borrow.Author.Tests.{not-true, not-false}
 use lib.Dec.{eqb}
 use lib.ListN.{length}
 use Rattle.refusal.specs.declared.Verdict.{Verdict}
 use Rattle.refusal.specs.Answer.{answer}
 use Rattle.refusal.specs.Order.{judge}
+use Rattle.refusal.proofs.Theorems.{answer-refused, answer-value}
 use Rattle.schedule.specs.Check.{checked}
 use Rattle.schedule.proofs.Copied.{copied}
 use Rattle.number.specs.Number.{numberOf}
-use Rattle.record.specs.Bytes.{bytesFor, unpacked, unused}
+use Rattle.record.specs.Bytes.{unpacked, unused}
 use Rattle.record.specs.Record.{beaten, bodyRows}
 use Rattle.record.proofs.Packing.{length-tabulate}
-use Rattle.record.proofs.Writing.{answer-refused, answer-value}
 use Rattle.reading.specs.Reading.{told}
 use Rattle.reading.proofs.Verdicts.{late-check, told-refused, told-accepted, left-refused, left-accepted, hand-checked, spoiled-bits, spoiled-not, unpacked-beats}
 use borrow.Author.Needs.{needs}

@@ -1,10 +1,10 @@
 -- `writes::beaten` meets its contract: a refusal is the check's, or 12, and leaves what was lent; else head and packed beats make the record.
 -- Assumes nothing.
 use mathlib.Core.List.{List, _∷_, _++_}
-use mathlib.Core.Path.{_≡_, refl, _∙_, ap, sym}
+use mathlib.Core.Path.{_≡_, _∙_, ap, sym}
 use Prim.Native.Nat.{ℕ, _+_, _-_, _≤_, _<_}
 use native.Mathlib.Omega.{arith}
-use lib.ListN.{length, getD, take, drop, length-drop}
+use lib.ListN.{length, take, drop, length-drop}
 use lib.Seq.{length-take-le}
 use Rattle.refusal.specs.declared.Verdict.{Verdict}
 use Rattle.schedule.specs.Schedule.{Schedule}
@@ -13,7 +13,6 @@ use Rattle.schedule.proofs.Theorems.{accepted-schedule}
 use Rattle.counts.specs.Counts.{Allowed}
 use Rattle.circle.proofs.Forms.{refused-so, accepted-so}
 use Rattle.record.specs.Bytes.{lowFirst, bytesFor, packed}
-use Rattle.record.specs.Record.{recordOf}
 use Rattle.record.proofs.Packing.{all-beats}
 use Rattle.record.proofs.Writing.{packed-size, record-made, beaten-size, write-refused, write-short, write-taken}
 use borrow.Author.Needs.{needs}

@@ -1,8 +1,8 @@
 -- `writes::head` meets its contract: six stores. Assumes nothing.
 use mathlib.Core.List.{List}
-use Prim.Native.Nat.{ℕ, _/_, _%_, _≤_}
+use Prim.Native.Nat.{ℕ, _/_, _%_}
 use native.Mathlib.Omega.{arith}
-use lib.ListN.{length, set}
+use lib.ListN.{set}
 use lib.Seq.{lt-length-set}
 use Rattle.record.specs.Bytes.{lowFirst}
 use Rattle.record.proofs.Writing.{headed}

@@ -1,20 +1,20 @@
 -- `writes::numbered` meets its contract: a refusal is the check's, or 12, and leaves what was lent; else head and number make the record.
 -- Assumes nothing.
 use mathlib.Core.List.{List, _∷_, _++_}
-use mathlib.Core.Path.{_≡_, refl, _∙_, ap, sym}
-use Prim.Native.Nat.{ℕ, _+_, _-_, _≤_, _<_}
+use mathlib.Core.Path.{_≡_, _∙_, ap, sym}
+use Prim.Native.Nat.{ℕ, _+_, _<_}
 use native.Mathlib.Omega.{arith}
 use lib.ListN.{length, take, drop, length-drop}
 use lib.Seq.{length-take-le}
 use Rattle.refusal.specs.declared.Verdict.{Verdict}
+use Rattle.refusal.proofs.Theorems.{answer-refused, answer-value}
 use Rattle.schedule.specs.Check.{checked}
 use Rattle.schedule.proofs.Theorems.{accepted-schedule}
 use Rattle.circle.proofs.Forms.{refused-so, accepted-so}
 use Rattle.number.specs.Number.{numberOf}
 use Rattle.record.specs.Bytes.{lowFirst}
-use Rattle.record.specs.Record.{recordOf}
 use Rattle.record.proofs.Numerals.{length-low}
-use Rattle.record.proofs.Writing.{record-made, numbered-size, write-refused, write-short, write-taken, answer-refused, answer-value}
+use Rattle.record.proofs.Writing.{record-made, numbered-size, write-refused, write-short, write-taken}
 use borrow.Author.Needs.{needs}
 use Rattle.record.proofs.writes.numbered.Statement.{statement}
 use Rattle.record.proofs.writes.numbered.Tie as tie

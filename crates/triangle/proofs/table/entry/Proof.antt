@@ -1,7 +1,6 @@
 -- `triangle::table::entry` meets its contract: outside the table and past s = t there is nothing. Assumes nothing.
 use mathlib.Core.Path.{sym}
 use native.Mathlib.Omega.{arith}
-use borrow.Author.Needs.{needs}
 use Rattle.triangle.proofs.Rule.{at-row-outside}
 use Rattle.triangle.proofs.Parts.{at-over}
 use Rattle.triangle.proofs.table.entry.Statement.{statement}

@@ -1,8 +1,7 @@
 -- `triangle::table::inside` meets its contract: the part that has row t has the entry at the place of t, s. Assumes nothing.
 use mathlib.Core.Path.{_∙_, sym}
-use Prim.Native.Nat.{ℕ, _≤_, _<_}
+use Prim.Native.Nat.{_≤_, _<_}
 use native.Mathlib.Omega.{arith}
-use borrow.Author.Needs.{needs}
 use Rattle.triangle.specs.Count.{largest}
 use Rattle.triangle.specs.Table.{middleRow, highRow}
 use Rattle.triangle.proofs.Parts.{place-below, place-from, pair-le, low-at, middle-at, high-at}
