@@ -9,9 +9,10 @@
  * Rules for every function:
  * - It takes every number and every content of the lent bytes, and ends. It does its work, or refuses by one
  *   of the numbers below. A refused call leaves every lent byte as it was.
- * - It answers one number. Where a call has more to answer, each part has a function of its own: `_refusal`
- *   answers GV_ACCEPTED or the refusal, `_place` the beat at fault, or 0 where there is none, and the
- *   function without such an ending the value, 0 after a refusal.
+ * - It answers one number. Of check, count and number each part has a function of its own: `_refusal` answers
+ *   GV_ACCEPTED or the refusal, `_place` the beat at fault, or 0 where there is none, and gv_count and
+ *   gv_number the value, 0 after a refusal. gv_form, gv_next and gv_run answer GV_ACCEPTED or the refusal, and
+ *   `_changed` the beats that a step or a run would change, 0 after a refusal.
  * - A slice is a pointer and, right behind it, its length in bytes. Nothing outside the slice is read or
  *   written, and a slice that is lent as const is only read.
  * - The caller owes a pointer that is valid for the length, and is not NULL even if the length is 0; slices
