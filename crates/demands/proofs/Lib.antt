@@ -4,3 +4,4 @@ pub mod Accepted
 pub mod Answered
 pub mod Demands
 pub mod Cases
+pub mod Handed

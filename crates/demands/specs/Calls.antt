@@ -1,6 +1,6 @@
--- Thirteen of the library's entry points as calls, and what each of them answers and leaves, by the words of its contract. The others answer a
--- part of these: each C function but gv_version one number of one of them, by an equation with the same definition, and the functions that take a
--- list of counts the same; the packing list's line is `packing`'s. Definitions only.
+-- Thirteen of the library's entry points as calls, and what each of them answers and leaves, by the words of its contract; src/lib.rt proves
+-- that of each function. The others answer a part of these: each C function but gv_version one number of one of them, by an equation with the
+-- same definition, and the functions that take a list of counts the same; the packing list's line is `packing`'s. Definitions only.
 --     Call            an entry point with its numbers and with what is lent to it
 --     lent            what is lent to a call, list by list
 --     Says            an answer that is one number, or a refusal

@@ -1,2 +1,89 @@
-// No code: the demands of the letter and the examples of document 01 that are marked P, as theorems
-// about the definitions of the crates above. The definitions are in specs/, the theorems in proofs/.
+// The demands of the letter and the examples of document 01 that are marked P, as theorems about the definitions of
+// the crates above. The definitions are in specs/, the theorems in proofs/. The functions here only hand a call on: each
+// has the words of `Gives` for its contract, so that these are proved of the thirteen functions and not only read. [D1g]
+ghost use mathlib.Core.List.{[], _∷_};
+ghost use Rattle.refusal.specs.Answer.{verdict, value};
+ghost use Rattle.order.specs.Parts as said;
+ghost use Rattle.demands.specs.Calls as call;
+ghost use Rattle.demands.specs.Calls.{Gives};
+use order::Reading;
+use refusal::Answer;
+use refusal::Verdict;
+
+fn count(t: u64, s: u64) -> Answer
+    ensures { λ r. ⌜ Gives (call.count t s) (verdict r) (value r ∷ []) [] ⌝ }
+{
+    counts::count(t, s)
+}
+
+fn check(t: u64, s: u64, beats: &[u8]) -> Verdict
+    ensures { λ r. ⌜ Gives (call.check t s (now (beats .entry))) r [] (now (beats .exit) ∷ []) ⌝ }
+{
+    schedule::check(t, s, beats)
+}
+
+fn next(t: u64, s: u64, beats: &mut [u8]) -> Answer
+    ensures { λ r. ⌜ Gives (call.next t s (now (beats .entry))) (verdict r) (value r ∷ []) (now (beats .exit) ∷ []) ⌝ }
+{
+    circle::next(t, s, beats)
+}
+
+fn changed(t: u64, s: u64, beats: &[u8]) -> Answer
+    ensures { λ r. ⌜ Gives (call.changed t s (now (beats .entry))) (verdict r) (value r ∷ []) (now (beats .exit) ∷ []) ⌝ }
+{
+    circle::changed(t, s, beats)
+}
+
+fn run(t: u64, s: u64, beats: &mut [u8], k: u64) -> Answer
+    ensures { λ r. ⌜ Gives (call.run t s (now (beats .entry)) k) (verdict r) (value r ∷ []) (now (beats .exit) ∷ []) ⌝ }
+{
+    circle::run(t, s, beats, k)
+}
+
+fn run_changed(t: u64, s: u64, beats: &[u8], k: u64) -> Answer
+    ensures { λ r. ⌜ Gives (call.run-changed t s (now (beats .entry)) k) (verdict r) (value r ∷ []) (now (beats .exit) ∷ []) ⌝ }
+{
+    circle::run_changed(t, s, beats, k)
+}
+
+fn number(t: u64, s: u64, beats: &[u8]) -> Answer
+    ensures { λ r. ⌜ Gives (call.number t s (now (beats .entry))) (verdict r) (value r ∷ []) (now (beats .exit) ∷ []) ⌝ }
+{
+    number::number(t, s, beats)
+}
+
+fn form(t: u64, s: u64, n: u64, out: &mut [u8]) -> Verdict
+    ensures { λ r. ⌜ Gives (call.form t s n (now (out .entry))) r [] (now (out .exit) ∷ []) ⌝ }
+{
+    form::form(t, s, n, out)
+}
+
+fn form_on_sheet(t: u64, s: u64, n: u64, sheet: &mut [u8], column: u64) -> Verdict
+    ensures { λ r. ⌜ Gives (call.form-on-sheet t s n (now (sheet .entry)) column) r [] (now (sheet .exit) ∷ []) ⌝ }
+{
+    form::form_on_sheet(t, s, n, sheet, column)
+}
+
+fn tree(n: u64, beats: &[u8], left: &mut [u8], right: &mut [u8], parent: &mut [u8]) -> Verdict
+    ensures { λ r. ⌜ Gives (call.tree n (now (beats .entry)) (now (left .entry)) (now (right .entry)) (now (parent .entry))) r [] (now (beats .exit) ∷ now (left .exit) ∷ now (right .exit) ∷ now (parent .exit) ∷ []) ⌝ }
+{
+    tree::tree(n, beats, left, right, parent)
+}
+
+fn schedule_of_tree(n: u64, left: &[u8], right: &[u8], parent: &[u8], out: &mut [u8]) -> Verdict
+    ensures { λ r. ⌜ Gives (call.schedule-of-tree n (now (left .entry)) (now (right .entry)) (now (parent .entry)) (now (out .entry))) r [] (now (left .exit) ∷ now (right .exit) ∷ now (parent .exit) ∷ now (out .exit) ∷ []) ⌝ }
+{
+    tree_back::schedule_of_tree(n, left, right, parent, out)
+}
+
+fn read(src: &[u8], out: &mut [u8]) -> Reading
+    ensures { λ r. ⌜ Gives (call.read (now (src .entry)) (now (out .entry))) (said.verdict r) (said.t r ∷ said.s r ∷ said.number r ∷ said.consumed r ∷ []) (now (src .exit) ∷ now (out .exit) ∷ []) ⌝ }
+{
+    reading::read(src, out)
+}
+
+fn write(kind: u64, t: u64, s: u64, beats: &[u8], out: &mut [u8]) -> Answer
+    ensures { λ r. ⌜ Gives (call.write kind t s (now (beats .entry)) (now (out .entry))) (verdict r) (value r ∷ []) (now (beats .exit) ∷ now (out .exit) ∷ []) ⌝ }
+{
+    record::write(kind, t, s, beats, out)
+}
