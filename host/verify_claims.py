@@ -4,18 +4,14 @@ one. Its id stands, as [id], in a comment of one of its files.
 
 A claim is a table row | id | what it says | kind | where |. No id stands twice.
 """
-import pathlib
 import re
 import sys
 
-ROOT = pathlib.Path(__file__).resolve().parent.parent
+from verifying import ROOT, has, verdict
+
 KINDS = {"definition", "contract", "theorem", "refused edit", "vector", "measured", "argued", "open"}
 ROW = re.compile(r"\| ([A-Z]+\d+[a-z]?) \|(.*)\|(.*)\|(.*)\|")
 PLACE = re.compile(r"`([\w./-]+)(?:#([^`]+))?`")
-
-
-def has(text, name):
-    return re.search(rf"(?<![\w′-]){re.escape(name)}(?![\w′-])", text)
 
 
 def faults(claim, kinds, where):
@@ -44,10 +40,7 @@ def main():
             found.append(f"{claim} stands twice")
         seen.add(claim)
         found += faults(claim, [k.strip() for k in kinds.split(",")], where)
-    for fault in found:
-        print(fault)
-    print(f"{len(rows)} claims")
-    return 1 if found or not rows else 0
+    return verdict(found, len(rows), "claims")
 
 
 if __name__ == "__main__":

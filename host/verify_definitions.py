@@ -8,7 +8,8 @@ denies it (→ ⊥), a test's inside is ≡ true and its outside ≡ false. Of a
 import re
 import sys
 
-from verify_claims import PLACE, ROOT, has
+from verify_claims import PLACE
+from verifying import ROOT, has, verdict
 
 ROW = re.compile(r"^\| `([\w./-]+)#([^`]+)` \|([^|]*)\|([^|]*)\|([^|]*)\|$", re.M)
 DEFINED = re.compile(r"^(?:abbrev |unfoldable )?pub (?!mod |use )(?:record |data )?(\S+) (.*(?:\n +→.*)*)", re.M)
@@ -83,10 +84,7 @@ def main():
         seen.add((path, name))
         found += faults(name, kind_of(here[name]), inside, outside)
     found += [f"{path}#{name} has no row" for (path, name), kind in wanted.items() if kind != "constant" and (path, name) not in seen]
-    for fault in found:
-        print(fault)
-    print(f"{len(rows)} definitions")
-    return 1 if found or not rows else 0
+    return verdict(found, len(rows), "definitions")
 
 
 if __name__ == "__main__":

@@ -7,7 +7,7 @@ each row has one."""
 import re
 import sys
 
-from verify_claims import ROOT
+from verifying import ROOT, verdict
 
 LOGS = ROOT / "target/must-fail"
 HEADING = re.compile(r"^## (\w+)$")
@@ -71,11 +71,8 @@ def main():
             found += faults(crate, edit, edits[crate, edit], own)
         else:
             found.append(f"{crate}/{edit} is no edit")
-    for fault in found:
-        print(fault)
-    programs = sum(map(len, rows.values()))
-    print(f"{programs} wrong programs in {len(rows)} edits" + (", each refused where its row says" if LOGS.exists() and not found else ""))
-    return 1 if found or not rows else 0
+    refused = ", each refused where its row says" if LOGS.exists() and not found else ""
+    return verdict(found, sum(map(len, rows.values())), f"wrong programs in {len(rows)} edits{refused}")
 
 
 if __name__ == "__main__":

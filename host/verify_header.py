@@ -16,7 +16,8 @@ import subprocess
 import sys
 import tempfile
 
-ROOT = pathlib.Path(__file__).resolve().parent.parent
+from verifying import ROOT, verdict
+
 CRATES = ROOT / "crates"
 HEADER = ROOT / "include/ghanveltri.h"
 ARCHIVE = pathlib.Path(os.environ.get("GV_ARCHIVE") or ROOT / "target/staticlib/libghanveltri.a")
@@ -191,10 +192,7 @@ def main():
         faults += differences("function", functions, declared(), "header")
         faults += differences("constant", constants_of_crates(), constants(), "header")
     faults += archive_faults(functions)
-    for fault in faults:
-        print(fault)
-    print(f"{len(functions)} functions")
-    return 1 if faults or not functions else 0
+    return verdict(faults, len(functions), "functions")
 
 
 if __name__ == "__main__":

@@ -5,7 +5,7 @@ of it gives stands in the file below. A name that ends in .. stands for several.
 import re
 import sys
 
-from verify_claims import ROOT, has
+from verifying import ROOT, has, verdict
 
 LINE = re.compile(r"^--     (\S.*?)\s{2,}\S")
 
@@ -31,10 +31,7 @@ def faults(path):
 def main():
     files = [path for part in ("specs", "proofs") for path in sorted(ROOT.glob(f"crates/*/{part}/**/*.antt")) if path.name != "Lib.antt"]
     found = [f"{path.relative_to(ROOT)} {fault}" for path in files for fault in faults(path)]
-    for fault in found:
-        print(fault)
-    print(f"{len(files)} heads")
-    return 1 if found or not files else 0
+    return verdict(found, len(files), "heads")
 
 
 if __name__ == "__main__":

@@ -13,7 +13,7 @@ use lib.ListN.{length, getD}
 use Rattle.refusal.specs.declared.Answer.{Answer}
 use Rattle.refusal.specs.declared.Refusal.the-variants.{RunTooLong}
 use Rattle.refusal.specs.declared.Verdict.{Verdict}
-use Rattle.refusal.specs.Answer.{answer, verdict, value}
+use Rattle.refusal.specs.Answer.{answer, value}
 use Rattle.refusal.specs.Order.{_⇒_, judge}
 use Rattle.refusal.proofs.Order.{judge-back}
 use Rattle.refusal.proofs.Theorems.{accepted-none, refused-number}
@@ -34,21 +34,19 @@ use Rattle.number.proofs.Numbers.{form-schedule}
 use Rattle.number.proofs.Theorems.{number-fewest, number-below}
 use Rattle.number.proofs.Verdicts.{form-allowed}
 use Rattle.number.proofs.Agreement.{form-accepted, asked-numbered, numbered-asked, walked-asked}
-use Rattle.demands.specs.Calls.{number, form, run, Says, Gives}
+use Rattle.demands.specs.Calls.{number, form, run, Gives}
 use Rattle.demands.specs.Demands.{Demand1, Demand2, Demand3, Demand3All, Demands}
 use Rattle.demands.proofs.Calls.{call-unchanged, call-silent, call-one}
 use Rattle.demands.proofs.Accepted.{taken, call-refused}
 use Rattle.demands.proofs.Answered.{call-answered}
+use Rattle.demands.proofs.Handed.{says}
 
 demand-1 : Demand1
 demand-1 = record { by-number = refused-number; refused = call-refused; unchanged = call-unchanged; silent = call-silent; answered = call-answered; one-answer = call-one }
 
--- an accepted call, and what it says
-says : (a : Answer) (n : ℕ) → a ≡ Answer.Value n → Says a Verdict.Accepted (n ∷ [])
-says a n e = (ap verdict (sym e), ap (λ (x : Answer). value x ∷ []) (sym e))
-
-accepts : (v : Verdict) → v ≡ Verdict.Accepted → (n : ℕ) → answer v n ≡ Answer.Value n
-accepts v e n = ap (λ (x : Verdict). answer x n) e
+-- what an accepted call answers, and what it leaves
+accepts : (v : Verdict) → v ≡ Verdict.Accepted → (n : ℕ) → Answer.Value n ≡ answer v n
+accepts v e n = ap (λ (x : Verdict). answer x n) (sym e)
 
 leaves : (v : Verdict) → v ≡ Verdict.Accepted → (done lent : List ℕ) → done ∷ [] ≡ left v done lent ∷ []
 leaves v e done lent = ap (λ (x : Verdict). left x done lent ∷ []) (sym e)
@@ -77,7 +75,7 @@ module _ (t s : ℕ) (a : Allowed t s) where
         number-given = λ b p. (numberOf t s b, (says _ _ (accepts _ (schedule-accepted t s b a p) _), refl));
         number-fewest = λ b n g. let said = numbered b n g in subst (Fewest t s b) (sym (said .1)) (number-fewest (said .0));
         form-given = λ n out h long. (formOf t s n, form-schedule (a .1) n, ((sym (form-accepted t s a n out h long), refl), leaves _ (form-accepted t s a n out h long) _ out));
-        form-number = λ n out b g. (says _ n (ap (numberAnswer t s) (single (g .1)) ∙ asked-numbered t s n out (sym (g .0 .0))), refl);
+        form-number = λ n out b g. (says _ _ (sym (ap (numberAnswer t s) (single (g .1)) ∙ asked-numbered t s n out (sym (g .0 .0)))), refl);
         number-form = asks;
         walking-asking = walks;
       }
@@ -86,7 +84,7 @@ module _ (t s : ℕ) (a : Allowed t s) where
       asks n out b g long =
           let said = numbered b n g in
           let below : n < N t s = omega (arith, said .1, number-below (said .0)) in
-          let answered = accepts (checked t s b) (schedule-accepted t s b a (said .0)) (numberOf t s b) ∙ ap Answer.Value (sym (said .1)) in
+          let answered = sym (accepts (checked t s b) (schedule-accepted t s b a (said .0)) (numberOf t s b)) ∙ ap Answer.Value (sym (said .1)) in
           ((sym (form-accepted t s a n out below long), refl), ap (λ (l : List ℕ). l ∷ []) (sym (numbered-asked t s b n answered out long)))
 
       walks : (n k : ℕ) (out a' b m : List ℕ) → Gives (form t s n out) Verdict.Accepted [] (a' ∷ []) → Gives (run t s a' k) Verdict.Accepted m (b ∷ [])
