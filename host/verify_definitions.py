@@ -12,7 +12,7 @@ from verify_claims import PLACE
 from verifying import ROOT, has, verdict
 
 ROW = re.compile(r"^\| `([\w./-]+)#([^`]+)` \|([^|]*)\|([^|]*)\|([^|]*)\|$", re.M)
-DEFINED = re.compile(r"^(?:abbrev |unfoldable )?pub (?!mod |use )(?:record |data )?(\S+) (.*(?:\n +→.*)*)", re.M)
+DEFINED = re.compile(r"^(?:abbrev |unfoldable )?pub (?!mod |use )(?:record |data )?(\S+) (.*(?:\n +[→(].*)*)", re.M)
 
 
 def definitions(path):

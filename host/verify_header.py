@@ -4,9 +4,10 @@
 The header alone compiles as C99 and as C++11. Each function that crates/ghanveltri exports stands in the header with
 the same parameters, in the same order, under the same names and in the same widths, and it stands in the archive;
 neither has another. A slice is a pointer and then its length. The constants have the values of the crates. The archive
-brings no other name and no memory that can be written, and it needs nothing but the C library's memory functions.
+brings no other name and no memory that can be written, and it needs nothing but the C library's memory functions, its
+read, write and open, and errno.
 
-The archive is target/staticlib/libghanveltri.a, or what GV_ARCHIVE names. Prints each fault, and ends with status 1 if
+The archive is target/host/libghanveltri.a, or what GV_ARCHIVE names. Prints each fault, and ends with status 1 if
 there is one.
 """
 import os
@@ -14,13 +15,12 @@ import pathlib
 import re
 import subprocess
 import sys
-import tempfile
 
+from header import HEADER, constants, declared, output, prototype
 from verifying import ROOT, verdict
 
 CRATES = ROOT / "crates"
-HEADER = ROOT / "include/ghanveltri.h"
-ARCHIVE = pathlib.Path(os.environ.get("GV_ARCHIVE") or ROOT / "target/staticlib/libghanveltri.a")
+ARCHIVE = pathlib.Path(os.environ.get("GV_ARCHIVE") or ROOT / "target/host/libghanveltri.a")
 
 STRICT = ("-pedantic", "-Wall", "-Wextra", "-Werror")
 LANGUAGES = {
@@ -28,12 +28,11 @@ LANGUAGES = {
     "C++11": ("g++", "-x", "c++", "-std=c++11", *STRICT),
 }
 INCLUDES = {"stddef.h", "stdint.h"}
-BORROWED = {"memcpy", "memmove", "memset", "memcmp", "bcmp"}
+BORROWED = {"memcpy", "memmove", "memset", "memcmp", "bcmp", "read", "write", "open", "__errno_location"}
 LENGTH = ("size_t", "length")
 
 EXPORT = re.compile(r'#\[no_mangle\]\s*pub extern "C" fn (\w+)\s*\(([^)]*)\)(?:\s*->\s*(\w+))?')
 SYMBOL = re.compile(r"^[0-9a-f ]{16} (\w) (.+)$", re.M)
-PROTOTYPE = re.compile(r"(\w+(?: \w+)*[ *]*)\b(gv_\w+) ?\(([^)]*)\) ?;")
 
 
 def source(path):
@@ -49,12 +48,6 @@ def number_in(path, pattern):
     return int(found[0].replace("_", ""))
 
 
-def prototype(name, result, parameters):
-    """A function as C declares it; parameters are pairs of a type and a name."""
-    each = [kind + name if kind.endswith("*") else f"{kind} {name}" for kind, name in parameters]
-    return f"{result} {name}({', '.join(each) or 'void'})"
-
-
 # What the crates say.
 
 
@@ -62,6 +55,7 @@ def in_c(name, kind):
     """The C parameters of one of Rattle's."""
     return {
         "u64": [("uint64_t", name)],
+        "i32": [("int32_t", name)],
         "usize": [("size_t", name)],
         "&[u8]": [("const uint8_t *", name), LENGTH],
         "&mut [u8]": [("uint8_t *", name), LENGTH],
@@ -101,45 +95,6 @@ def constants_of_crates():
         "GV_VERSION_MINOR": version // 1000 % 1000,
         "GV_VERSION_PATCH": version % 1000,
     }
-
-
-# What the header says.
-
-
-def output(*command):
-    return subprocess.run(command, stdout=subprocess.PIPE, text=True, check=True).stdout
-
-
-def parameter(text):
-    """The type and the name of a parameter."""
-    kind, name = re.fullmatch(r"(.*?)(\w*)", text.strip()).groups()
-    return (kind.strip(), name)
-
-
-def declared():
-    """Each function of the header."""
-    text = output("gcc", "-E", "-P", "-x", "c", "-std=c99", HEADER)
-    text = re.sub(r"\s+", " ", text)
-    functions = {}
-    for result, name, parameters in PROTOTYPE.findall(text):
-        each = [parameter(text) for text in parameters.split(",") if text.strip() != "void"]
-        functions[name] = prototype(name, result.strip(), each)
-    if set(functions) != set(re.findall(r"\b(gv_\w+) ?\(", text)):
-        raise SystemExit("a function of the header is not understood")
-    return functions
-
-
-def constants():
-    """The header's constants with their values, as a C program sees them."""
-    macros = output("gcc", "-E", "-dM", "-x", "c", HEADER)
-    names = re.findall(r"#define (GV_\w+)", macros)
-    lines = [f'#include "{HEADER}"', "#include <stdio.h>", "int main(void) {"]
-    lines += [f'printf("{name} %llu\\n", (unsigned long long)({name}));' for name in names]
-    with tempfile.TemporaryDirectory() as folder:
-        program = pathlib.Path(folder, "constants")
-        text = "\n".join([*lines, "return 0; }\n"])
-        subprocess.run(["gcc", "-x", "c", "-", "-o", program], input=text, text=True, check=True)
-        return {name: int(value) for name, value in (line.split() for line in output(program).splitlines())}
 
 
 # Faults.
@@ -184,7 +139,7 @@ def archive_faults(functions):
 
 def main():
     if not ARCHIVE.exists():
-        print(f"there is no {ARCHIVE}: rt staticlib ghanveltri")
+        print(f"there is no {ARCHIVE}: rt staticlib ghanveltri && host/build")
         return 1
     functions = exported()
     faults = [*compile_faults()]

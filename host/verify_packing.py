@@ -1,13 +1,12 @@
 #!/usr/bin/env python3
 """Holds the packing list to host/packing.py [E11]: the same bytes out for the same bytes in, from a file and through a pipe in pieces.
 
-The program is target/bin/packing_list, or what GV_PACKING_LIST names. The mixed records come from a new seed, which is printed;
+Both programs of host/listing.py are run, or what GV_PACKING_LIST names. The mixed records come from a new seed, which is printed;
 GV_SEED repeats one. Prints a line for each part, and ends with status 1 at the first difference.
 """
 import fcntl
 import itertools
 import os
-import pathlib
 import random
 import struct
 import subprocess
@@ -19,12 +18,12 @@ import time
 import oracle
 import packing
 import records
+from listing import BOTH, LIMIT, Difference, missing
 
-ROOT = pathlib.Path(__file__).resolve().parent.parent
-PROGRAM = os.environ.get("GV_PACKING_LIST") or str(ROOT / "target/bin/packing_list")
+NAMED = os.environ.get("GV_PACKING_LIST")
+PROGRAMS = [NAMED] if NAMED else [lister.path for lister in BOTH]
 SEED = int(os.environ.get("GV_SEED") or random.SystemRandom().getrandbits(32))
 MIXED = 100_000
-LIMIT = 60  # seconds for a run
 BLOCKS = (4096, 65536)
 PIECES = (1, 7, 4095, 2, 65535, 13, 4096, 3, 1021)
 REFUSALS = {1, 2, 5, 6, 7, 9, 10, 11}  # those that a record can get
@@ -42,16 +41,12 @@ SAMPLE = [
 SAMPLE_OUTPUT = b"3 2 2 11010\n3 2 3 10101\nrefused 7 0\n1 1 0 10\n"
 
 
-class Difference(Exception):
-    pass
-
-
-def from_file(data):
-    """What the program writes when its standard input is a file."""
+def from_file(program, data):
+    """What a program writes when its standard input is a file."""
     with tempfile.TemporaryFile() as file:
         file.write(data)
         file.seek(0)
-        done = subprocess.run([PROGRAM], stdin=file, stdout=subprocess.PIPE, timeout=LIMIT)
+        done = subprocess.run([program], stdin=file, stdout=subprocess.PIPE, timeout=LIMIT)
     return (done.returncode, done.stdout)
 
 
@@ -78,10 +73,10 @@ def deliver(process, data, sizes):
         pass
 
 
-def in_pieces(data, sizes=PIECES):
+def in_pieces(program, data, sizes=PIECES):
     """The same through a pipe that delivers in pieces."""
     with tempfile.TemporaryFile() as file:
-        with subprocess.Popen([PROGRAM], stdin=subprocess.PIPE, stdout=file, bufsize=0) as process:
+        with subprocess.Popen([program], stdin=subprocess.PIPE, stdout=file, bufsize=0) as process:
             try:
                 deliver(process, data, sizes)
                 status = process.wait(LIMIT)
@@ -91,15 +86,15 @@ def in_pieces(data, sizes=PIECES):
         return (status, file.read())
 
 
-def bytewise(data):
-    return in_pieces(data, (1,))
+def bytewise(program, data):
+    return in_pieces(program, data, (1,))
 
 
 def in_two(place):
     """The way of feeding that delivers the bytes before a place first: the program's block ends there, whatever its size."""
 
-    def feed(data):
-        return in_pieces(data, (place, len(data)))
+    def feed(program, data):
+        return in_pieces(program, data, (place, len(data)))
 
     feed.__name__ = f"in two pieces, at {place}"
     return feed
@@ -132,18 +127,18 @@ class Verifier:
         self.refusals = set()
 
     def verify(self, name, data, *feeds, right=None):
-        """The program's output for these bytes by each way of feeding them; right is the output where it is known otherwise."""
+        """Each program's output for these bytes by each way of feeding them; right is the output where it is known otherwise."""
         computed = packing.output(data)
         if right is not None and computed != right:
             raise Difference(f"{name}: host/packing.py is wrong: {computed!r}")
         self.refusals |= {int(line.split()[1]) for line in computed.splitlines() if line.startswith(b"refused")}
-        for feed in feeds or (from_file,):
+        for program, feed in itertools.product(PROGRAMS, feeds or (from_file,)):
             self.runs += 1
-            status, got = feed(data)
+            status, got = feed(program, data)
             if got != computed:
-                raise Difference(f"{name}, {feed.__name__}: {first_difference(data, computed, got)}")
+                raise Difference(f"{program}: {name}, {feed.__name__}: {first_difference(data, computed, got)}")
             if status != 0:
-                raise Difference(f"{name}, {feed.__name__}: ended with status {status}")
+                raise Difference(f"{program}: {name}, {feed.__name__}: ended with status {status}")
 
 
 def sample(verifier):
@@ -329,8 +324,8 @@ def mixed(verifier):
 
 
 def main():
-    if not os.access(PROGRAM, os.X_OK):
-        print(f"there is no {PROGRAM}")
+    if not NAMED and missing():
+        print(missing())
         return 1
     verifier = Verifier()
     for part in (sample, cuts, limits, corners, block_ends, piece_ends, output_ends, mixed):

@@ -8,7 +8,8 @@
  *
  * Rules for every function:
  * - It takes every number and every content of the lent bytes, and ends. It does its work, or refuses by one
- *   of the numbers below. A refused call leaves every lent byte as it was.
+ *   of the numbers below. A refused call leaves every lent byte as it was. gv_packing_list refuses nothing: it
+ *   ends when its input does, and answers numbers of its own.
  * - It answers one number. Of check, count and number each part has a function of its own: `_refusal` answers
  *   GV_ACCEPTED or the refusal, `_place` the beat at fault, or 0 where there is none, and gv_count and
  *   gv_number the value, 0 after a refusal. gv_form, gv_next and gv_run answer GV_ACCEPTED or the refusal, and
@@ -18,8 +19,8 @@
  * - The caller owes a pointer that is valid for the length, and is not NULL even if the length is 0; slices
  *   of one call that do not overlap; and that nobody else writes a slice during the call, nor reads one that
  *   is not const.
- * - It keeps no pointer, allocates no memory, reads and writes no file, and has no state that calls share:
- *   any number of threads may call at the same time.
+ * - It keeps no pointer, allocates no memory, and has no state that calls share: any number of threads may
+ *   call at the same time. All but gv_packing_list read and write no file.
  *
  * The marks in brackets are claims of docs/CLAIMS.md, which leads from them to the proofs.
  */
@@ -35,7 +36,7 @@ extern "C" {
 
 /* The version of this header. A new major version may ask callers to change. */
 #define GV_VERSION_MAJOR 1
-#define GV_VERSION_MINOR 0
+#define GV_VERSION_MINOR 1
 #define GV_VERSION_PATCH 0
 #define GV_VERSION (GV_VERSION_MAJOR * 1000000 + GV_VERSION_MINOR * 1000 + GV_VERSION_PATCH)
 
@@ -46,7 +47,7 @@ extern "C" {
 /*
  * The refusals. A number never changes its meaning; new ones follow the last. The functions below give 1 to 7
  * and 13. The others are of parts of the library that have no C function: tree tables (8), order records (9
- * to 12) and sheets (12). [R1] [R2]
+ * to 12) and sheets (12). The lines of gv_packing_list name those of order records. [R1] [R2]
  */
 #define GV_ACCEPTED 0          /* no refusal */
 #define GV_TOO_MANY_TASKS 1    /* t is above GV_LARGEST_COUNT */
@@ -137,6 +138,22 @@ uint64_t gv_next_changed(uint64_t t, uint64_t s, const uint8_t *beats, size_t le
  */
 uint64_t gv_run(uint64_t t, uint64_t s, uint8_t *beats, size_t length, uint64_t steps);
 uint64_t gv_run_changed(uint64_t t, uint64_t s, const uint8_t *beats, size_t length, uint64_t steps);
+
+/*
+ * Lists the order records of one open descriptor to another, a line for each, as the command packing_list
+ * does: up to the end of the input, or to a record that is refused 9.
+ * Answers 0 when all was listed, a stop behind a 9 included; 1 when reading failed, behind the lines of all
+ * records that had come; 2 when writing failed, and what was written is the start of the list. A call that was
+ * interrupted is made again. An input or output that is not ready (O_NONBLOCK) is a failure, and no end.
+ * After 1 and 2 errno says why. A write that takes no byte is a failure too, and sets no errno: a caller who
+ * sets it to 0 before finds 0 then, or EINTR from a call that was made again.
+ * In: from, a descriptor open for reading; to, one open for writing. Any other number is a failure like the
+ * rest. Both stay open, and `from` may have been read past a 9.
+ * It waits as long as the system's read and write do, and needs up to 150 KB of stack. Signals are the
+ * caller's affair: SIGPIPE (a reader left) and SIGXFSZ (a limit of size) end a process that does not ignore,
+ * block or catch them. [E18]
+ */
+uint64_t gv_packing_list(int32_t from, int32_t to);
 
 #ifdef __cplusplus
 }

@@ -5,14 +5,15 @@
 // Nothing is kept from call to call. The contracts cite the definitions of the crates below,
 // each by an equation. [W3] [F4] [P13]
 ghost use mathlib.Core.Path.{_≡_};
+ghost use Prim.Native.Nat.{_≤_};
 ghost use Rattle.refusal.specs.Answer.{refusal, place, verdict, value};
 ghost use Rattle.counts.specs.Counts.{counting};
 ghost use Rattle.schedule.specs.Check.{checked};
 ghost use Rattle.circle.specs.Answers.{nextAnswer, nextLeft, runAnswer, runLeft};
 ghost use Rattle.number.specs.Answers.{numberAnswer, formVerdict, formLeft};
 
-// The version, 1.0.0: major * 1000000 + minor * 1000 + patch.
-const VERSION: u64 = 1000000;
+// The version, 1.1.0: major * 1000000 + minor * 1000 + patch.
+const VERSION: u64 = 1001000;
 
 // The version of the library.
 #[no_mangle]
@@ -129,4 +130,13 @@ pub extern "C" fn gv_run_changed(t: u64, s: u64, beats: &[u8], steps: u64) -> u6
     ensures { λ r. ⌜ r ≡ value (runAnswer t s (now (beats .entry)) steps) ⌝ }
 {
     circle::run_changed(t, s, beats, steps).value()
+}
+
+// Lists the order records of one descriptor to another as the packing list does, to the end of the input or
+// behind a 9: 0 where all was listed, 1 where reading failed, 2 where writing failed. [E18]
+#[no_mangle]
+pub extern "C" fn gv_packing_list(from: i32, to: i32) -> u64
+    ensures { λ r. ⌜ r ≤ 2 ⌝ }
+{
+    packing::list_all(from, to)
 }

@@ -2,16 +2,14 @@
 --     Ordered, ordered     what an accepted reading says of the record, and of the beats in the room
 --     turned-down          what a refused reading says of it
 --     list-accepted, list-refused     the line that was written is the record's
---     listed-within        what is passed over lies within the slice, and the line within what was lent
 -- Assumes nothing.
-use mathlib.Core.Bool.{Bool, true, false, cond, _||_}
+use mathlib.Core.Bool.{Bool, false}
 use mathlib.Core.List.{List, _++_}
-use mathlib.Core.Path.{_≡_, refl, sym, _∙_, ap, ap₂, subst}
-use Prim.Native.Nat.{ℕ, _+_, _≤_}
+use mathlib.Core.Path.{_≡_, sym, _∙_, ap, ap₂, subst}
+use Prim.Native.Nat.{ℕ, _+_}
 use native.Mathlib.Nat.{zero-add}
-use native.Mathlib.Omega.{arith}
 use lib.Dec.{eqb}
-use lib.ListN.{length, take, drop, length-append}
+use lib.ListN.{length, take, drop}
 use lib.Seq.{take-at}
 use Rattle.refusal.specs.declared.Refusal.{Refusal}
 use Rattle.refusal.specs.declared.Verdict.{Verdict}
@@ -20,18 +18,18 @@ use Rattle.refusal.specs.Order.{judge}
 use Rattle.triangle.specs.Count.{largest}
 use Rattle.counts.specs.Counts.{Allowed}
 use Rattle.schedule.specs.Schedule.{Schedule}
-use Rattle.record.specs.Record.{long, kindIn, ups, downs, body, cut, meant, meantNumber, readRows, eaten}
+use Rattle.record.specs.Record.{long, kindIn, ups, downs, body, meant, meantNumber, readRows, eaten}
 use Rattle.order.specs.declared.Order.{Order}
 use Rattle.order.specs.declared.Reading.{Reading}
 use Rattle.reading.specs.Reading.{told, leaving, readAnswer, readLeft}
 use Rattle.order.specs.Parts as said
 use Rattle.reading.proofs.Verdicts.{told-verdict}
-use Rattle.reading.proofs.Heads.{whole-long}
-use Rattle.reading.proofs.Answering.{read-cut}
 use Rattle.reading.proofs.Meaning.{Means, read-means}
 use Rattle.line.specs.Line.{acceptedLine, refusedLine}
 use Rattle.line.specs.Written.{Written}
-use Rattle.packing.specs.Listed.{verdictOn, text, lineOf, passing, passed, ending, ends, widest, Listed, listed, cramped}
+use Rattle.stream.specs.Stream.{verdictOn, passing, passed, ending, ends}
+use Rattle.stream.specs.Pass.{Prints}
+use Rattle.packing.specs.Listed.{text, lineOf}
 
 module _ (src room : List ℕ) (h : length room ≡ largest + largest) where
   abbrev number : ℕ
@@ -95,46 +93,28 @@ module _ (src room : List ℕ) (h : length room ≡ largest + largest) where
       let refused = verdict-of e in
       (refused, ap said.consumed (sym (ap (told (ups src) (downs src) number (long src)) (sym refused) ∙ sym answer-is ∙ e)))
 
-module _ (src out : List ℕ) (wide : widest ≤ length out) where
-  -- a line that was written at the front is listed
-  as-listed : {c b : ℕ} {e : Bool} {x : List ℕ} → c ≡ passed src → e ≡ ends src → Written 0 (lineOf src) out x b → Listed src out c b e x
-  as-listed {c} {b} {e} {x} ec ee w =
-      let long : b ≡ length (lineOf src) = w .end ∙ zero-add (length (lineOf src)) in
-      let line : x ≡ lineOf src ++ drop (length (lineOf src)) out = w .text ∙ ap (λ (j : ℕ). lineOf src ++ drop j out) (zero-add (length (lineOf src))) in
-      subst (λ (i : ℕ). Listed src out i b e x) (sym ec)
-      (subst (λ (i : ℕ). Listed src out (passed src) i e x) (sym long)
-      (subst (λ (i : Bool). Listed src out (passed src) (length (lineOf src)) i x) (sym ee)
-      (subst (λ (i : List ℕ). Listed src out (passed src) (length (lineOf src)) (ends src) i) (sym line) (listed wide))))
+module _ (src out : List ℕ) where
+  -- a line that was written at the front is printed
+  as-printed : {consumed bytes : ℕ} {last : Bool} {after : List ℕ} → consumed ≡ passed src → last ≡ ends src → Written 0 (lineOf src) out after bytes
+      → Prints lineOf src out (record { consumed = consumed; bytes = bytes; last = last }) after
+  as-printed ec el w = record {
+    record-size = ec;
+    line-size = w .end ∙ zero-add (length (lineOf src));
+    ending = el;
+    written = w .text ∙ ap (λ (j : ℕ). lineOf src ++ drop j out) (zero-add (length (lineOf src)));
+  }
 
-  pub list-accepted : (room : List ℕ) (h : length room ≡ largest + largest) (o : Order) → Ordered src room h o → (u : List ℕ) → u ≡ meant (kindIn src) (ups src) (downs src) (body src)
-      → {b : ℕ} {x : List ℕ} → Written 0 (acceptedLine (o .t) (o .s) (o .number) u) out x b → Listed src out (o .consumed) b false x
-  list-accepted room h o f u e {b} {x} w =
-      as-listed (f .is-consumed ∙ ap (passing src) (sym (f .taken))) (ap ending (sym (f .taken)))
-      (subst (λ (l : List ℕ). Written 0 l out x b) (rw (f .is-t, f .is-s, f .is-number, e) (ap (text src) (sym (f .taken)))) w)
+  pub list-accepted : (room : List ℕ) (h : length room ≡ largest + largest) (o : Order) → Ordered src room h o
+      → (u : List ℕ) → u ≡ meant (kindIn src) (ups src) (downs src) (body src)
+      → {bytes : ℕ} {after : List ℕ} → Written 0 (acceptedLine (o .t) (o .s) (o .number) u) out after bytes
+      → Prints lineOf src out (record { consumed = o .consumed; bytes = bytes; last = false }) after
+  list-accepted room h o f u e {bytes} {after} w =
+      as-printed (f .is-consumed ∙ ap (passing src) (sym (f .taken))) (ap ending (sym (f .taken)))
+      (subst (λ (l : List ℕ). Written 0 l out after bytes) (rw (f .is-t, f .is-s, f .is-number, e) (ap (text src) (sym (f .taken)))) w)
 
-  pub list-refused : (why : Refusal) → verdictOn src ≡ Verdict.Refused why → {c n at b : ℕ} {x : List ℕ} → c ≡ eaten why (long src) → n ≡ numberOf why → at ≡ placeOf why
-      → Written 0 (refusedLine n at) out x b → Listed src out c b (eqb n 9) x
-  list-refused why e {c} {n} {at} {b} {x} ec en ea w =
-      as-listed (ec ∙ ap (passing src) (sym e)) (ap (λ (j : ℕ). eqb j 9) en ∙ ap ending (sym e))
-      (subst (λ (l : List ℕ). Written 0 l out x b) (rw (en, ea) (ap (text src) (sym e))) w)
-
--- a refusal passes over no more than the record
-passing-most : (src : List ℕ) (v : Verdict) → passing src v ≤ 2 + long src
-passing-most src Verdict.Accepted = omega arith
-passing-most src (Verdict.Refused why) = most (eqb (numberOf why) 9 || eqb (numberOf why) 12)
-  where
-    most : (b : Bool) → cond b 0 (2 + long src) ≤ 2 + long src
-    most true = omega arith
-    most false = omega arith
-
-passed-within : (src : List ℕ) → passed src ≤ length src
-passed-within src = by (cut src) refl
-  where
-    by : (b : Bool) → cut src ≡ b → passed src ≤ length src
-    by true e = omega (arith, ap (passing src) (read-cut (largest + largest) src (omega arith) e))
-    by false e = omega (arith, passing-most src (verdictOn src), whole-long src e .1)
-
-pub listed-within : {src out : List ℕ} {c b : ℕ} {e : Bool} {x : List ℕ} → Listed src out c b e x → length x ≡ length out → (c ≤ length src) × (b ≤ length out)
-listed-within {src} {out} (listed wide) h =
-    (passed-within src, omega (arith, length-append (lineOf src) (drop (length (lineOf src)) out)))
-listed-within (cramped small) h = (omega arith, omega arith)
+  pub list-refused : (why : Refusal) → verdictOn src ≡ Verdict.Refused why → {consumed number place bytes : ℕ} {after : List ℕ}
+      → consumed ≡ eaten why (long src) → number ≡ numberOf why → place ≡ placeOf why → Written 0 (refusedLine number place) out after bytes
+      → Prints lineOf src out (record { consumed = consumed; bytes = bytes; last = eqb number 9 }) after
+  list-refused why e {bytes = bytes} {after} ec en ep w =
+      as-printed (ec ∙ ap (passing src) (sym e)) (ap (λ (j : ℕ). eqb j 9) en ∙ ap ending (sym e))
+      (subst (λ (l : List ℕ). Written 0 l out after bytes) (rw (en, ep) (ap (text src) (sym e))) w)

@@ -1,16 +1,26 @@
--- What the line of a record is, beyond the contract.
---     listed-one       no second answer and no second content of the lent bytes fits the contract [P12]
+-- What the packing list prints of an input, beyond the contracts.
+--     line-own         the line of a record depends on no byte behind it
+--     pieces-list      however an input is cut into pieces, the texts of the passes one after the other are its packing list [E15]
 -- Assumes nothing.
-use mathlib.Core.Bool.{Bool}
-use mathlib.Core.List.{List}
-use mathlib.Core.Path.{_≡_, refl}
+use mathlib.Core.Bool.{false}
+use mathlib.Core.List.{List, [], _++_}
+use mathlib.Core.Path.{_≡_, refl, sym, _∙_, ap}
 use Prim.Native.Nat.{ℕ}
-use native.Mathlib.Omega.{arith}
-use Rattle.packing.specs.Listed.{Listed, listed, cramped}
+use Rattle.refusal.specs.declared.Verdict.{Verdict}
+use Rattle.stream.specs.Stream.{verdictOn, Own}
+use Rattle.stream.specs.Pass.{joined, Listing}
+use Rattle.stream.proofs.Alone.{verdict-alone, parts-alone}
+use Rattle.stream.proofs.Theorems.{listing-list}
+use Rattle.packing.specs.Listed.{text, lineOf, widest, packingList}
 
-pub listed-one : {src out : List ℕ} {c d b n : ℕ} {e f : Bool} {x y : List ℕ}
-    → Listed src out c b e x → Listed src out d n f y → (c ≡ d) × (b ≡ n) × (e ≡ f) × (x ≡ y)
-listed-one (listed h) (listed g) = (refl, refl, refl, refl)
-listed-one (listed h) (cramped g) = absurd (omega arith)
-listed-one (cramped h) (listed g) = absurd (omega arith)
-listed-one (cramped h) (cramped g) = (refl, refl, refl, refl)
+pub line-own : Own lineOf
+line-own src more e = ap (text (src ++ more)) (verdict-alone src more e) ∙ by (verdictOn src) refl
+  where
+    by : (v : Verdict) → verdictOn src ≡ v → text (src ++ more) (verdictOn src) ≡ text src (verdictOn src)
+    by Verdict.Accepted r =
+        let same = parts-alone src more r in
+        ap (text (src ++ more)) r ∙ rw (same .0, same .1, same .2, same .3) (ap (text src) (sym r))
+    by (Verdict.Refused why) r = ap (text (src ++ more)) r ∙ ap (text src) (sym r)
+
+pub pieces-list : {room : ℕ} {input : List ℕ} {texts : List (List ℕ)} → Listing lineOf widest room false [] input texts → joined texts ≡ packingList input
+pieces-list = listing-list lineOf line-own

@@ -1,51 +1,45 @@
--- The line of the packing list for a record, document 01, "Examples on both sides". Definitions only.
---     verdictOn        the verdict on the record that a slice starts with, read with room for the longest schedule
---     lineOf           its line: t, s, number and beats, or "refused", the refusal's number and the place [E4]
---     passed           the bytes to pass over
---     ends             the list ends behind the line of a 9
+-- The packing list, document 01, "Examples on both sides". Definitions only. The verdict on a record, the bytes to pass
+-- over and where a list ends are in specs/Stream of the crate `stream`.
+--     text             the line after a verdict
+--     lineOf           the line of the record that a slice starts with: t, s, number and beats, or "refused", the
+--                      refusal's number and the place [E4]
 --     widest           the bytes that every line fits into
---     Listed           what listing a record answers and leaves: the line, and behind it what was there; with less room than a line may
---                      want, nothing is done and the list ends
-use mathlib.Core.Bool.{Bool, true, false}
-use mathlib.Core.List.{List, _++_}
-use Prim.Native.Nat.{ℕ, _+_, _≤_, _<_}
-use lib.Dec.{eqb}
-use lib.ListN.{length, drop}
+--     packingList      the whole list of an input [E14]
+--     Buffers          the buffers are large enough: for any record, and for the beats of any schedule
+--     Turned           what a turn of the program does, in its buffers
+use mathlib.Core.List.{List}
+use mathlib.Core.Path.{_≡_}
+use Prim.Native.Nat.{ℕ, _+_, _≤_}
+use lib.ListN.{length}
 use Rattle.refusal.specs.declared.Verdict.{Verdict}
 use Rattle.refusal.specs.Refusal.{numberOf, placeOf}
-use Rattle.refusal.specs.Order.{judge}
 use Rattle.triangle.specs.Count.{largest}
-use Rattle.record.specs.Record.{long, kindIn, ups, downs, body, meant, meantNumber, readRows, eaten}
+use Rattle.record.specs.Record.{longest, kindIn, ups, downs, body, meant, meantNumber}
 use Rattle.line.specs.Line.{acceptedLine, refusedLine}
-
-abbrev pub verdictOn : List ℕ → Verdict
-verdictOn src = judge (readRows (largest + largest) src)
+use Rattle.stream.specs.declared.Stream.{Stream}
+use Rattle.stream.specs.Stream.{verdictOn, listOf}
+use Rattle.stream.specs.Exchange.{window, Inside}
+use Rattle.stream.specs.Pass.{Turns}
 
 abbrev pub text : List ℕ → Verdict → List ℕ
 text src Verdict.Accepted =
-    acceptedLine (ups src) (downs src) (meantNumber (kindIn src) (ups src) (downs src) (body src)) (meant (kindIn src) (ups src) (downs src) (body src))
+    acceptedLine (ups src) (downs src) (meantNumber (kindIn src) (ups src) (downs src) (body src))
+    (meant (kindIn src) (ups src) (downs src) (body src))
 text src (Verdict.Refused why) = refusedLine (numberOf why) (placeOf why)
 
 abbrev pub lineOf : List ℕ → List ℕ
 lineOf src = text src (verdictOn src)
 
-abbrev pub passing : List ℕ → Verdict → ℕ
-passing src Verdict.Accepted = 2 + long src
-passing src (Verdict.Refused why) = eaten why (long src)
-
-abbrev pub passed : List ℕ → ℕ
-passed src = passing src (verdictOn src)
-
-abbrev pub ending : Verdict → Bool
-ending Verdict.Accepted = false
-ending (Verdict.Refused why) = eqb (numberOf why) 9
-
-abbrev pub ends : List ℕ → Bool
-ends src = ending (verdictOn src)
-
 abbrev pub widest : ℕ
 widest = 64 + (largest + largest)
 
-pub data Listed (src out : List ℕ) : ℕ → ℕ → Bool → List ℕ → Type 0 where
-  listed : widest ≤ length out → Listed src out (passed src) (length (lineOf src)) (ends src) (lineOf src ++ drop (length (lineOf src)) out)
-  cramped : length out < widest → Listed src out 0 0 true out
+abbrev pub packingList : List ℕ → List ℕ
+packingList input = listOf lineOf input
+
+pub record Buffers (input room : List ℕ) : Type 0 where
+  pub any-record : 2 + longest ≤ length input
+  pub any-beats : length room ≡ largest + largest
+
+pub record Turned (input lent : List ℕ) (stream : Stream) (after : List ℕ) (next : Stream) : Type 0 where
+  pub inside : Inside after next
+  pub turns : Turns lineOf widest (length lent) (window input stream) stream (window after next) next

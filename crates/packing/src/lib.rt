@@ -1,28 +1,30 @@
-// The packing list's line for a record: document 01, "Examples on both sides". The contracts cite specs/Listed.
+// The packing list: document 01, "Examples on both sides". A line for each order record of a stream. The line of
+// a record is in specs/Listed; how a stream is listed, and that what is printed is the list of the whole input
+// however it comes in pieces, is in the crate `stream`, whose specs/Pass and specs/Exchange the contracts cite too.
 ghost use mathlib.Core.Path.{_≡_};
 ghost use Prim.Native.Nat.{_+_, _≤_};
 ghost use lib.ListN.{length};
 ghost use Rattle.triangle.specs.Count.{largest};
 ghost use Rattle.lookup.specs.Lent.{Counts};
-ghost use Rattle.packing.specs.Listed.{widest, Listed};
+ghost use Rattle.stream.specs.Exchange.{Inside};
+ghost use Rattle.stream.specs.Pass.{Prints, Passes};
+ghost use Rattle.packing.specs.Listed.{lineOf, widest, Buffers, Turned};
 use order::Reading;
+use stream::Front;
+use stream::Pass;
+use stream::Printed;
+use stream::Stream;
 
 const BEATS: usize = 2 * triangle::LARGEST as usize;
 
 // The bytes that every line fits into.
-pub const WIDEST: usize = 64 + BEATS;
+const WIDEST: usize = 64 + BEATS;
 
-// What was listed: the bytes of the record and those of its line, and whether the list ends there.
-pub struct Printed {
-    pub consumed: u64,
-    pub bytes: usize,
-    pub last: bool,
-}
-
-// Writes the line of a record, whose beats go into the room.
-fn list_with(counts: &[u64], src: &[u8], room: &mut [u8], out: &mut [u8]) -> Printed
+// Writes the line of the record that a slice starts with at the start of the lent bytes, leaving the others. The
+// room takes its beats.
+fn list(counts: &[u64], src: &[u8], room: &mut [u8], out: &mut [u8]) -> Printed
     requires { ⌜ Counts (now counts) × (length (now room) ≡ largest + largest) × (widest ≤ length (now out)) ⌝ }
-    ensures { λ r. ⌜ Listed (now (src .entry)) (now (out .entry)) (r .consumed) (r .bytes) (r .last) (now (out .exit)) ⌝ }
+    ensures { λ r. ⌜ Prints lineOf (now (src .entry)) (now (out .entry)) r (now (out .exit)) ⌝ }
 {
     let reading = reading::read_by(counts, src, room);
     match reading {
@@ -47,19 +49,94 @@ fn list_with(counts: &[u64], src: &[u8], room: &mut [u8], out: &mut [u8]) -> Pri
     }
 }
 
-// Writes the line of the record that a slice starts with at the start of the lent bytes, leaving the others;
-// nothing where there are fewer than WIDEST. The caller keeps the list of counts, made once for all records.
-pub fn list(counts: &[u64], src: &[u8], out: &mut [u8]) -> Printed
-    requires { ⌜ Counts (now counts) ⌝ }
-    ensures { λ r. ⌜ Listed (now (src .entry)) (now (out .entry)) (r .consumed) (r .bytes) (r .last) (now (out .exit)) ⌝ }
+// Lists the records that a window starts with, one after the other, while their lines have room.
+fn list_window(counts: &[u64], src: &[u8], ended: bool, room: &mut [u8], text: &mut [u8]) -> Pass
+    requires { ⌜ Counts (now counts) × (length (now room) ≡ largest + largest) ⌝ }
+    ensures { λ r. ⌜ Passes lineOf widest ended (now (src .entry)) (now (text .entry)) r (now (text .exit)) ⌝ }
 {
-    if out.len() < WIDEST {
-        return Printed {
-            consumed: 0,
-            bytes: 0,
-            last: true,
+    let mut at = 0;
+    let mut put = 0;
+    loop {
+        let front = stream::at_front(&src[at..], ended);
+        let Front::Record = front else {
+            return Pass {
+                consumed: at,
+                bytes: put,
+                front,
+            };
         };
+        if text.len() - put < WIDEST {
+            return Pass {
+                consumed: at,
+                bytes: put,
+                front: Front::Record,
+            };
+        }
+        let printed = list(counts, &src[at..], room, &mut text[put..]);
+        if printed.last {
+            return Pass {
+                consumed: at,
+                bytes: put + printed.bytes,
+                front: Front::Over,
+            };
+        }
+        at += printed.consumed as usize;
+        put += printed.bytes;
     }
+}
+
+// Lists the records of the window, writes their lines out, and reads on where one waits for more input.
+fn turn(
+    counts: &[u64],
+    from: i32,
+    to: i32,
+    input: &mut [u8],
+    room: &mut [u8],
+    text: &mut [u8],
+    state: Stream,
+) -> Stream
+    requires { ⌜ Counts (now counts) × Buffers (now input) (now room) × Inside (now input) state ⌝ }
+    ensures { λ r. ⌜ Turned (now (input .entry)) (now (text .entry)) state (now (input .exit)) r ⌝ }
+{
+    let at = state.at;
+    let have = state.have;
+    let pass = list_window(counts, &input[at..have], state.ended, room, text);
+    stream::exchange(from, to, input, text, state, pass)
+}
+
+// Turn after turn, to the end of the list.
+fn run(
+    counts: &[u64],
+    from: i32,
+    to: i32,
+    input: &mut [u8],
+    room: &mut [u8],
+    text: &mut [u8],
+) -> u64
+    requires { ⌜ Counts (now counts) × Buffers (now input) (now room) ⌝ }
+    ensures { λ r. ⌜ r ≤ 2 ⌝ }
+{
+    let mut state = stream::start();
+    let mut turns = u64::MAX;
+    while 0 < turns {
+        state = turn(counts, from, to, input, room, text, state);
+        turns = stream::fewer(turns, state.going);
+    }
+    if state.going {
+        return 1;
+    }
+    state.answer
+}
+
+// [E12] Lists the records of one descriptor to another, to the end of the input or behind a 9. Answers 0 where all
+// was listed, 1 where reading failed and 2 where writing failed; errno then has the system's reason.
+pub fn list_all(from: i32, to: i32) -> u64
+    ensures { λ r. ⌜ r ≤ 2 ⌝ }
+{
+    let mut input = io::large_buffer();
     let mut room = [0u8; BEATS];
-    list_with(counts, src, &mut room, out)
+    let mut text = io::large_buffer();
+    let mut counts = [0u64; lookup::PLACES];
+    lookup::fill(&mut counts);
+    run(&counts, from, to, &mut input, &mut room, &mut text)
 }

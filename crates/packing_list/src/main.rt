@@ -1,153 +1,30 @@
-// The packing list: document 01, "Examples on both sides". Order records from standard input, a line for
-// each to standard output, in large blocks both ways. What a line says is proved in `packing`; the program only
-// moves bytes. It keeps two buffers of fixed size, and a record that straddles the end of what was read is
-// moved to the front before more is read behind it.
-ghost use mathlib.Core.Path.{_≡_};
-ghost use Prim.Native.Nat.{_+_, _≤_, _<_};
-ghost use lib.ListN.{length, take, drop};
-ghost use Rattle.lookup.specs.Lent.{Counts};
-ghost use Rattle.packing_list.specs.Window.{Inside};
+// The packing list as a program of its own: order records from standard input, a line for each to standard output.
+// It is thin over `packing::list_all`, as the command of the C host is (host/packing_list.c), and tells a failure in
+// the same words; what it cannot have is an exit status.
+use libc::STDERR_FILENO;
 use libc::STDIN_FILENO;
 use libc::STDOUT_FILENO;
 
-// The bytes that every whole record fits into: L is at most 1,020.
-const RECORD: usize = 1022;
-
-// Unread bytes from `at` up to `have`; lines up to `put`; whether more may be read; whether to go on.
-struct State {
-    at: usize,
-    have: usize,
-    put: usize,
-    open: bool,
-    going: bool,
-}
-
-// Moves bytes from an index on to the front.
-fn slide(input: &mut [u8], from: usize, count: usize)
-    requires { ⌜ from + count ≤ length (now input) ⌝ }
-    ensures { λ r. ⌜ take count (now (input .exit)) ≡ take count (drop from (now (input .entry))) ⌝ }
-{
-    let mut k = 0;
-    while k < count {
-        input[k] = input[from + k];
-        k += 1;
-    }
-}
-
-// Reads once behind the unread bytes; the input has ended where nothing comes.
-fn refill(input: &mut [u8], text: &[u8], state: State) -> State
-    requires { ⌜ Inside (now input) (now text) state ⌝ }
-    ensures { λ r. ⌜ Inside (now (input .exit)) (now (text .entry)) r ⌝ }
-{
-    let left = state.have - state.at;
-    slide(input, state.at, left);
-    let got = libc::read(STDIN_FILENO, &mut input[left..]);
-    let more = io::count(got, &input[left..]);
-    State {
-        at: 0,
-        have: left + more,
-        put: state.put,
-        open: 0 < more,
-        going: true,
-    }
-}
-
-// Writes the lines out where the next might find no room; where that fails, the list ends and no line is left.
-fn flush(text: &[u8], input: &[u8], state: State) -> State
-    requires { ⌜ Inside (now input) (now text) state ⌝ }
-    ensures { λ r. ⌜ Inside (now (input .entry)) (now (text .entry)) r ⌝ }
-{
-    let put = state.put;
-    if packing::WIDEST <= text.len() - put {
-        return state;
-    }
-    let written = io::write_all(STDOUT_FILENO, &text[..put]);
-    State {
-        at: state.at,
-        have: state.have,
-        put: 0,
-        open: state.open,
-        going: written,
-    }
-}
-
-// Lists the next record; the list ends where there is none, and behind a 9.
-fn print(counts: &[u64], input: &[u8], text: &mut [u8], state: State) -> State
-    requires { ⌜ Counts (now counts) × Inside (now input) (now text) state ⌝ }
-    ensures { λ r. ⌜ Inside (now (input .entry)) (now (text .exit)) r ⌝ }
-{
-    let at = state.at;
-    let have = state.have;
-    if at == have {
-        return State {
-            at,
-            have,
-            put: state.put,
-            open: false,
-            going: false,
-        };
-    }
-    let put = state.put;
-    let printed = packing::list(counts, &input[at..have], &mut text[put..]);
-    State {
-        at: at + printed.consumed as usize,
-        have,
-        put: put + printed.bytes,
-        open: state.open,
-        going: !printed.last,
-    }
-}
-
-// Reads more where a record may be cut, else lists one. `going` holds when a turn begins.
-fn turn(counts: &[u64], input: &mut [u8], text: &mut [u8], state: State) -> State
-    requires { ⌜ Counts (now counts) × Inside (now input) (now text) state ⌝ }
-    ensures { λ r. ⌜ Inside (now (input .exit)) (now (text .exit)) r ⌝ }
-{
-    if state.open {
-        if state.have - state.at < RECORD {
-            return refill(input, text, state);
+// A line on standard error: what failed, and the system's reason. A write that takes no byte gives none, and then
+// errno is 0, or still that of an interrupted call that was made again.
+fn tell(what: &[u8]) {
+    let error = os::errno();
+    if error != 0 {
+        if error != libc::EINTR {
+            os::fail(what);
+            return;
         }
     }
-    let ready = flush(text, input, state);
-    if !ready.going {
-        return ready;
-    }
-    print(counts, input, text, ready)
-}
-
-// The turns that are left after one: none where the list has ended.
-fn fewer(turns: u64, going: bool) -> u64
-    requires { ⌜ 0 < turns ⌝ }
-    ensures { λ r. ⌜ r < turns ⌝ }
-{
-    if going { turns - 1 } else { 0 }
-}
-
-// [E12] Goes on to the end of the list. Nothing says that the input ends, so the turns are counted down, from a
-// number that no run uses up.
-fn run(counts: &[u64], input: &mut [u8], text: &mut [u8])
-    requires { ⌜ Counts (now counts) ⌝ }
-{
-    let mut state = State {
-        at: 0,
-        have: 0,
-        put: 0,
-        open: true,
-        going: true,
-    };
-    let mut turns = u64::MAX;
-    while 0 < turns {
-        state = turn(counts, input, text, state);
-        turns = fewer(turns, state.going);
-    }
-    let put = state.put;
-    io::write_all(STDOUT_FILENO, &text[..put]);
+    io::write_all(STDERR_FILENO, what);
+    io::write_all(STDERR_FILENO, b": no byte was taken\n");
 }
 
 fn main() {
-    let mut input = io::large_buffer();
-    let mut text = io::large_buffer();
-    let mut counts = [0u64; lookup::PLACES];
-    lookup::fill(&mut counts);
-    run(&counts, &mut input, &mut text);
+    let answer = packing::list_all(STDIN_FILENO, STDOUT_FILENO);
+    if answer == 1 {
+        tell(b"packing_list: cannot read standard input");
+    }
+    if answer == 2 {
+        tell(b"packing_list: cannot write standard output");
+    }
 }

@@ -1,4 +1,5 @@
 -- The verdicts of reading, row by row, and what a reader answers and leaves by them.
+--     given            what holds of every reason of an order holds of the one that it gives
 --     told-verdict         an answer has the verdict that it was made from
 --     told-refused, told-why, told-accepted     the answer of a verdict that is known
 --     late-counts, late-number, late-check     refusals after which the record's bytes are consumed
@@ -36,11 +37,11 @@ use Rattle.order.specs.Parts as said
 use Rattle.reading.specs.Reading.{told}
 
 -- what holds of every reason of an order holds of the one that it gives
-abbrev All : (Refusal → Type 0) → List Row → Type 0
+abbrev pub All : (Refusal → Type 0) → List Row → Type 0
 All P [] = Unit {0}
 All P ((test ⇒ why) ∷ rows) = P why × All P rows
 
-given : (P : Refusal → Type 0) (rows : List Row) → All P rows → {why : Refusal} → judge rows ≡ Verdict.Refused why → P why
+pub given : (P : Refusal → Type 0) (rows : List Row) → All P rows → {why : Refusal} → judge rows ≡ Verdict.Refused why → P why
 given P [] a e = let z : _≡_ {A = ℕ} 0 1 = cc in absurd (omega arith)
 given P ((true ⇒ first) ∷ rows) a {why} e = let same : first ≡ why = cc in subst P same (a .0)
 given P ((false ⇒ first) ∷ rows) a e = given P rows (a .1) e

@@ -9,6 +9,8 @@ use refusal::Refusal;
 
 mod reads;
 
+pub use reads::LONGEST;
+
 // Reads the record that a slice starts with, and writes its schedule into the first t+s places of the lent
 // slice, leaving the others. Refuses 12, 9, 11 (L below 2), 10, 11 (L wrong for the kind), 1, 2, then 7, or 11
 // (kind 2's exact L and unused bits), 5, 6; a refusal changes nothing. [W2]

@@ -27,8 +27,8 @@ use refusal::Verdict;
 // The places that a slice for schedules must have.
 pub const ROOM: usize = 2 * triangle::LARGEST as usize;
 
-// The most bytes that a record has behind its length.
-const LONGEST: u64 = 1020;
+// The most bytes that a record has after its length.
+pub const LONGEST: u64 = 1020;
 
 // L, of a slice that has its two bytes.
 pub fn long(src: &[u8]) -> u64

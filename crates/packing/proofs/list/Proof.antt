@@ -1,24 +1,132 @@
--- `packing::list` meets its contract. Assumes nothing.
-use Rattle.packing.specs.Listed.{cramped}
+-- `list` meets its contract: the line of what reading answered. Assumes nothing.
+use mathlib.Core.List.{List}
+use mathlib.Core.Path.{_≡_, _∙_, ap, sym, subst}
+use Prim.Native.Nat.{ℕ, _+_, _≤_}
+use native.Mathlib.Omega.{arith}
+use lib.ListN.{length, take}
+use lib.Seq.{length-take-le}
+use Rattle.triangle.specs.Count.{largest}
+use Rattle.record.specs.Record.{kindIn, ups, downs, body, meant}
+use Rattle.order.specs.declared.Order.{Order}
+use Rattle.line.specs.Line.{Beats}
+use Rattle.packing.proofs.Listing.{Ordered, ordered, turned-down, list-accepted, list-refused}
 use borrow.Author.Needs.{needs}
 use Rattle.packing.proofs.list.Statement.{statement}
 use Rattle.packing.proofs.list.Tie as tie
 
-returns : tie.Need-returns
-returns c = cramped (c .if1 .taken)
+-- the record is accepted, and its beats are in the room
+module _ (c : tie.After-struct-known) where
+  abbrev called : tie.After-read-by
+  called = c .before .before .before .before .before .before
 
-slice-aggregate-list-with : tie.Need-slice-aggregate-list-with
-slice-aggregate-list-with c = search needs
+  abbrev start : tie.Start
+  start = called .before .before .before .before .before .before
 
-list-with-requires : tie.Need-list-with-requires
-list-with-requires c κs = search needs
+  abbrev src : List ℕ
+  src = start .args .src .now
+
+  abbrev room : List ℕ
+  room = start .args .room .now
+
+  abbrev order : Order
+  order = c .before .before .reading .given .0 .0
+
+  says : Ordered src room (start .pre .1) order
+  says = ordered src room (start .pre .1) order (sym (called .read-by .ensures .0) ∙ c .before .before .reading .given .1)
+
+  long : length (called .read-by .last .1 .1 .0) ≡ largest + largest
+  long = called .read-by .kept .1 .1 .0 ∙ start .pre .1
+
+  -- the part of the room that is lent on
+  shown : take (order .t + order .s) (called .read-by .last .1 .1 .0) ≡ meant (kindIn src) (ups src) (downs src) (body src)
+  shown = ap (take (order .t + order .s)) (called .read-by .ensures .1) ∙ says .in-room
+
+  few : (order .t ≤ largest) × (order .s ≤ order .t) × (length (called .read-by .last .1 .1 .0) ≡ largest + largest)
+  few = (says .few .0, says .few .1, long)
+
+read-by-requires : tie.Need-read-by-requires
+read-by-requires c κs = c .before .before .before .before .before .pre .0
+
+enum-known-reading : tie.Need-enum-known-reading
+enum-known-reading c = search needs
+
+add-n : tie.Need-add-n
+add-n c = omega (arith, few c)
+
+slice-reshare-prefix-accepted : tie.Need-slice-reshare-prefix-accepted
+slice-reshare-prefix-accepted c = omega (arith, few c)
+
+slice-aggregate-accepted : tie.Need-slice-aggregate-accepted
+slice-aggregate-accepted c = let here = c .before in sym (length-take-le (order here .t + order here .s) (called here .read-by .last .1 .1 .0) (omega (arith, few here)))
+
+accepted-requires : tie.Need-accepted-requires
+accepted-requires c κs =
+    let here = c .before .before in
+    let wide = start here .pre .2 in
+    let size = length-take-le (order here .t + order here .s) (called here .read-by .last .1 .1 .0) (omega (arith, few here)) in (
+      omega (arith, wide),
+      omega (arith, wide, size, few here),
+      subst Beats (sym (shown here)) (says here .schedule .beats),
+    )
+
+enum-known-reading-2 : tie.Need-enum-known-reading-2
+enum-known-reading-2 c = search needs
+
+number-requires : tie.Need-number-requires
+number-requires c κs = search needs
+
+place-requires : tie.Need-place-requires
+place-requires c κs = search needs
+
+refused-requires : tie.Need-refused-requires
+refused-requires c κs = search needs
 
 same-length : tie.Need-same-length
 same-length c = search needs
 
+same-length-2 : tie.Need-same-length-2
+same-length-2 c = search needs
+
+returns : tie.Need-returns
+returns c =
+    let writing = c .before .before in
+    let here = writing .before .before .before in
+    list-accepted (src here) (start here .args .out .now) (room here) (start here .pre .1) (order here) (says here) _ (shown here) (writing .accepted .ensures)
+
+same-length-3 : tie.Need-same-length-3
+same-length-3 c = search needs
+
+same-length-4 : tie.Need-same-length-4
+same-length-4 c = search needs
+
 returns-2 : tie.Need-returns-2
-returns-2 c = search needs
+returns-2 c =
+    let writing = c .before .before in
+    let placing = writing .before .before in
+    let numbering = placing .before in
+    let known = numbering .before .before in
+    let called = known .before .before .before .before in
+    let start = called .before .before .before .before .before .before in
+    let down = turned-down (start .args .src .now) (start .args .room .now) (start .pre .1) _ _ (sym (called .read-by .ensures .0) ∙ known .reading2 .given .1) in
+    list-refused (start .args .src .now) (start .args .out .now) _ (down .0) (down .1) (numbering .number .ensures) (placing .place .ensures) (writing .refused .ensures)
 
 pub list-spec : {M : Type 1} → statement M
 list-spec =
-    tie.close (tie.spec returns slice-aggregate-list-with list-with-requires same-length returns-2)
+    tie.close
+    (tie.spec
+    read-by-requires
+    enum-known-reading
+    add-n
+    slice-reshare-prefix-accepted
+    slice-aggregate-accepted
+    accepted-requires
+    enum-known-reading-2
+    number-requires
+    place-requires
+    refused-requires
+    same-length
+    same-length-2
+    returns
+    same-length-3
+    same-length-4
+    returns-2)

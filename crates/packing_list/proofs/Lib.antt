@@ -1,2 +1,0 @@
-pub mod Sliding
-pub mod Cases

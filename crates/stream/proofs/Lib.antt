@@ -1,0 +1,10 @@
+pub mod Sliding
+pub mod Fronts
+pub mod Feeding
+pub mod Onwards
+pub mod Alone
+pub mod Lists
+pub mod Going
+pub mod Stops
+pub mod Theorems
+pub mod Cases

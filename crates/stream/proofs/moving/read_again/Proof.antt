@@ -1,0 +1,59 @@
+-- `moving::read_again` is safe and ends: the bytes stay as many as they were, and the measure is the tries that are left. Assumes nothing.
+use mathlib.Core.Path.{_≡_}
+use lib.ListN.{length}
+use borrow.Author.Needs.{needs}
+use Rattle.stream.proofs.moving.read_again.Statement.{statement}
+use Rattle.stream.proofs.moving.read_again.Tie as tie
+
+abbrev Inv-loop : tie.InvT-loop
+Inv-loop from room₀ tries₀ room tries = length room ≡ length room₀
+
+abbrev μ-loop : tie.MeasureT-loop
+μ-loop from room₀ tries₀ room tries = tries
+
+loop-holds : tie.Need-loop-holds Inv-loop μ-loop
+loop-holds c = search needs
+
+read-requires : tie.Need-read-requires Inv-loop μ-loop
+read-requires c κs = search needs
+
+interrupted-requires : tie.Need-interrupted-requires Inv-loop μ-loop
+interrupted-requires c κs = search needs
+
+same-length : tie.Need-same-length Inv-loop μ-loop
+same-length c = search needs
+
+returns : tie.Need-returns Inv-loop μ-loop
+returns c = search needs
+
+sub-tries : tie.Need-sub-tries Inv-loop μ-loop
+sub-tries c = search needs
+
+loop-less : tie.Need-loop-less Inv-loop μ-loop
+loop-less c = search needs
+
+loop-again : tie.Need-loop-again Inv-loop μ-loop
+loop-again c = search needs
+
+same-length-2 : tie.Need-same-length-2 Inv-loop μ-loop
+same-length-2 c = search needs
+
+returns-2 : tie.Need-returns-2 Inv-loop μ-loop
+returns-2 c = search needs
+
+pub read-again-spec : {M : Type 1} → statement M
+read-again-spec =
+    tie.close
+    (tie.spec
+    Inv-loop
+    μ-loop
+    loop-holds
+    read-requires
+    interrupted-requires
+    same-length
+    returns
+    sub-tries
+    loop-less
+    loop-again
+    same-length-2
+    returns-2)

@@ -1,0 +1,118 @@
+#!/usr/bin/env python3
+"""Holds the manual pages of host/man to the header and to the command.
+
+ghanveltri(3) declares each function of the header as it stands there and says something of it, gives each refusal with its number, and
+names nothing else. packing_list(1) names the options of --help; its example is document 01's, and prints what it shows. Both have the
+header's version, and groff formats them without a warning. Prints each fault, and ends with status 1 if there is one.
+"""
+import os
+import pathlib
+import re
+import shlex
+import subprocess
+import sys
+import tempfile
+
+from header import constants, declared, prototypes, version
+from listing import COMMAND, missing
+from verifying import ROOT, has, verdict
+
+PAGES = ROOT / "host/man"
+NO_REFUSALS = re.compile(r"GV_(VERSION|LARGEST_|LONGEST_)")
+
+
+def unescaped(text):
+    """A text of roff as it is shown."""
+    text = re.sub(r"\\f[A-Z]", "", text)
+    return text.replace(r"\-", "-").replace(r"\e", "\\")
+
+
+def shown(line):
+    """What a line of roff shows: the words of a macro for fonts, side by side or apart, or the line itself."""
+    macro = re.match(r"\.([A-Z]+)\b ?(.*)", line)
+    if not macro:
+        return unescaped(line)
+    name, words = macro.groups()
+    if name not in ("B", "I", "BI", "BR", "IR", "RI", "RB", "IB"):
+        return ""
+    return unescaped(("" if len(name) == 2 else " ").join(shlex.split(words.replace("\\", "\\\\"))))
+
+
+def sections(name):
+    """The text of each section of a page."""
+    parts = re.split(r"^\.SH (.*)\n", (PAGES / name).read_text(), flags=re.M)
+    return {title: "\n".join(map(shown, text.splitlines())) for title, text in zip(parts[1::2], parts[2::2])}
+
+
+def differences(what, right, got):
+    """What a page has otherwise than the header."""
+    for name in sorted(right.keys() | got.keys()):
+        if got.get(name) != right.get(name):
+            yield f"ghanveltri.3: {what} {name} is {got.get(name, 'missing')}, in the header {right.get(name, 'missing')}"
+
+
+def library_faults(functions):
+    parts = sections("ghanveltri.3")
+    refusals = {name: value for name, value in constants().items() if not NO_REFUSALS.match(name)}
+    yield from differences("function", functions, prototypes(parts["SYNOPSIS"]))
+    given = re.findall(r"^(GV_\w+) \((\d+)\)$", parts["REFUSALS"], re.M)
+    yield from differences("refusal", refusals, {name: int(number) for name, number in given})
+    if len(given) != len(set(name for name, _ in given)):
+        yield "ghanveltri.3: a refusal stands twice"
+    for name in functions:
+        if not has(parts["DESCRIPTION"], name):
+            yield f"ghanveltri.3: nothing is said of {name}"
+    for name in set(re.findall(r"\b(?:gv|GV)_\w+", "\n".join(parts.values()))) - functions.keys() - constants().keys():
+        yield f"ghanveltri.3: there is no {name}"
+
+
+def example_faults():
+    """The page's example, in a folder of its own, with the command as it was built."""
+    lines = sections("packing_list.1")["EXAMPLES"].split("\n")
+    commands = [line[2:] for line in lines if line.startswith("$ ")]
+    last = max((at for at, line in enumerate(lines) if line.startswith("$ ")), default=0)
+    right = "".join(line + "\n" for line in lines[last + 1 :] if line)
+    with tempfile.TemporaryDirectory() as folder:
+        path = f"{pathlib.Path(COMMAND.path).parent}:{os.environ['PATH']}"
+        script = ["sh", "-euc", "\n".join(commands)]
+        done = subprocess.run(script, cwd=folder, env=os.environ | {"PATH": path}, stdout=subprocess.PIPE, text=True)
+        orders = pathlib.Path(folder, "orders")
+        made = orders.read_bytes() if orders.exists() else b""
+    if (done.returncode, done.stdout) != (0, right):
+        yield f"packing_list.1: the example ends with {done.returncode} and prints {done.stdout!r}"
+    if (made, right.encode()) != tuple((ROOT / "crates/packing_list" / name).read_bytes() for name in ("stdin", "stdout")):
+        yield "packing_list.1: the example is not the sample"
+
+
+def command_faults():
+    options = re.compile(r"(?<![\w-])--[a-z]\w*")
+    said = subprocess.run([COMMAND.path, "--help"], stdout=subprocess.PIPE, text=True, check=True).stdout
+    page = sections("packing_list.1")
+    for part in ("SYNOPSIS", "OPTIONS"):
+        if set(options.findall(page[part])) != set(options.findall(said)):
+            yield f"packing_list.1: {part} has other options than --help"
+    yield from example_faults()
+
+
+def page_faults(page):
+    right = ".".join(map(str, version()))
+    title = page.read_text().split("\n")[0]
+    if f'"ghanveltri {right}"' not in title:
+        yield f"{page.name}: another version than the header's, {right}"
+    done = subprocess.run(["groff", "-man", "-Tascii", "-ww", "-z", page], stdout=subprocess.PIPE, stderr=subprocess.STDOUT, text=True)
+    if done.returncode or done.stdout:
+        yield f"{page.name}: groff says {done.stdout.strip()}"
+
+
+def main():
+    if missing():
+        print(missing())
+        return 1
+    functions = declared()
+    pages = sorted(PAGES.iterdir())
+    faults = [*library_faults(functions), *command_faults(), *(fault for page in pages for fault in page_faults(page))]
+    return verdict(faults, len(functions), f"functions in {len(pages)} pages")
+
+
+if __name__ == "__main__":
+    sys.exit(main())
