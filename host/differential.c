@@ -95,7 +95,7 @@ static void damage(struct input *in) {
     }
 }
 
-/* The examples of document 01. */
+/* The examples of the manual. */
 
 /* The forms of t, s in the order of their numbers, and the beats that the step from each changes. */
 struct example {

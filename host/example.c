@@ -1,7 +1,8 @@
 /*
- * A scoring host in small: ships the form of an order, takes the sheet back, goes on to the next form, and
- * turns a wrong sheet away. Prints a line for each, and ends with status 1 where one is not as it should be.
- * The forms are those of document 01, "Examples on both sides".
+ * A scoring host in small: ships the form of an order, counts the forms that it chose from, takes the sheet back,
+ * goes on to the next form and to the third after it, and turns a wrong sheet away. Prints a line for each, and
+ * ends with status 1 where one is not as it should be. The forms are those of the manual, "Examples on both
+ * sides".
  */
 #include <inttypes.h>
 #include <stdio.h>
@@ -10,9 +11,12 @@
 
 #include "ghanveltri.h"
 
+/* The order: the tasks to take up, those to set down, and the number of the form. */
+enum { T = 3, S = 2, NUMBER = 2, BEATS = T + S };
+
 /* The beats as digits, run together. */
 static const char *digits(const uint8_t *beats, size_t length) {
-    static char text[GV_LONGEST_SCHEDULE + 1];
+    static char text[GV_MAX_BEATS + 1];
     size_t at;
     for (at = 0; at < length; at++)
         text[at] = (char)('0' + beats[at]);
@@ -28,28 +32,54 @@ static void require(int holds, const char *what) {
     }
 }
 
-/* An order names three tasks to take up, two to set down, and form number 2: the line to ship. */
-static void ship(uint8_t beats[5]) {
-    require(gv_form(3, 2, 2, beats, 5) == GV_ACCEPTED, "the order is refused");
-    printf("order 3 2, number 2: %s\n", digits(beats, 5));
-    require(strcmp(digits(beats, 5), "11010") == 0, "another form is shipped");
+/* Ends the program where a call is refused, with the text of the refusal. */
+static void accept(uint64_t refusal) {
+    require(refusal == GV_ACCEPTED, gv_refusal_text(refusal));
+}
+
+/* A line that tells of a form that was walked to, and of what the press had to change. */
+static void tell(const char *what, const uint8_t beats[BEATS], uint64_t changed) {
+    printf("%s: %s, %" PRIu64 " beats changed\n", what, digits(beats, BEATS), changed);
+}
+
+/* The two lines of an order: what was asked for, and the form that is shipped for it. */
+static void ship(uint8_t beats[BEATS]) {
+    printf("Form requested: %d tasks taken up, %d set down, No. %d\n", T, S, NUMBER);
+    accept(gv_form(T, S, NUMBER, beats, BEATS));
+    printf("Form shipped: %s\n", digits(beats, BEATS));
+    require(strcmp(digits(beats, BEATS), "11010") == 0, "another form is shipped");
+}
+
+/* How many forms have these counts. */
+static void count(void) {
+    uint64_t forms = gv_count(T, S);
+    accept(gv_count_refusal(T, S));
+    printf("%d taken up, %d set down: %" PRIu64 " forms\n", T, S, forms);
+    require(forms == 5, "another count of forms");
 }
 
 /* The sheet comes back: which form was it? */
-static void score(const uint8_t beats[5]) {
-    uint64_t number;
-    require(gv_number_refusal(3, 2, beats, 5) == GV_ACCEPTED, "the sheet is refused");
-    number = gv_number(3, 2, beats, 5);
-    printf("sheet %s: number %" PRIu64 "\n", digits(beats, 5), number);
-    require(number == 2, "the sheet has another number");
+static void score(const uint8_t beats[BEATS]) {
+    uint64_t number = gv_number(T, S, beats, BEATS);
+    accept(gv_number_refusal(T, S, beats, BEATS));
+    printf("Sheet %s: No. %" PRIu64 "\n", digits(beats, BEATS), number);
+    require(number == NUMBER, "the sheet has another number");
 }
 
-/* The form after it, and how many beats the printer has to change for it. */
-static void go_on(uint8_t beats[5]) {
-    uint64_t changed = gv_next_changed(3, 2, beats, 5);
-    require(gv_next(3, 2, beats, 5) == GV_ACCEPTED, "the step is refused");
-    printf("next %s: %" PRIu64 " beats changed\n", digits(beats, 5), changed);
-    require(strcmp(digits(beats, 5), "10101") == 0 && changed == 4, "another form is next");
+/* The form after it. */
+static void go_on(uint8_t beats[BEATS]) {
+    uint64_t changed = gv_next_changed(T, S, beats, BEATS);
+    accept(gv_next(T, S, beats, BEATS));
+    tell("Next form", beats, changed);
+    require(strcmp(digits(beats, BEATS), "10101") == 0 && changed == 4, "another form is next");
+}
+
+/* Three forms on, round the circle: its last form is followed by number 0. */
+static void run_on(uint8_t beats[BEATS]) {
+    uint64_t changed = gv_run_changed(T, S, beats, BEATS, 3);
+    accept(gv_run(T, S, beats, BEATS, 3));
+    tell("3 steps on", beats, changed);
+    require(strcmp(digits(beats, BEATS), "10110") == 0 && changed == 6, "another form is 3 steps on");
 }
 
 /* A sheet that sets down a second task with none in hand. */
@@ -57,16 +87,20 @@ static void turn_away(void) {
     static const uint8_t wrong[4] = {1, 0, 0, 1};
     uint64_t refusal = gv_check_refusal(2, 2, wrong, 4);
     uint64_t place = gv_check_place(2, 2, wrong, 4);
-    printf("sheet %s: refused %" PRIu64 " at beat %" PRIu64 "\n", digits(wrong, 4), refusal, place);
+    const char *text = gv_refusal_text(refusal);
+    printf("Sheet %s: refused %" PRIu64 " at beat %" PRIu64 ": %s\n", digits(wrong, 4), refusal, place, text);
     require(refusal == GV_EMPTY_HAND && place == 2, "the wrong sheet is not refused for its beat 2");
+    require(strcmp(text, "a task is set down with nothing in hand") == 0, "the refusal has another text");
 }
 
 int main(void) {
-    uint8_t beats[5];
+    uint8_t beats[BEATS];
     require(gv_version() == GV_VERSION, "the header and the library are of two versions");
     ship(beats);
+    count();
     score(beats);
     go_on(beats);
+    run_on(beats);
     turn_away();
     return EXIT_SUCCESS;
 }

@@ -1,4 +1,4 @@
-/* What independent.h declares. Positions are counted from 1 in the rule's part, as in document 01. */
+/* What independent.h declares. Positions are counted from 1 in the rule's part, as in the manual. */
 #include "independent.h"
 
 #include <string.h>

@@ -1,5 +1,5 @@
 /*
- * Document 01 once more, in plain C, for host/differential.c: written from its words, for clarity and not for
+ * The manual once more, in plain C, for host/differential.c: written from its words, for clarity and not for
  * speed, and sharing no code and no limit with crates/ or include/.
  *
  * A number is found in two ways. By the steps of the rule, which is what a number is, where there are few

@@ -67,7 +67,7 @@ class Input:
 
 def run(lister, *words, data=b"", source=None, to=subprocess.PIPE, prepare=None, variables=None):
     """A run with arguments, its standard input a file of these bytes or a source, its standard output read or a file. What is to be
-    prepared is called in the process before the program begins."""
+    prepared is called in the process before the program begins. It gets these variables of the environment, and no other."""
     with tempfile.TemporaryFile() as file:
         file.write(data)
         file.seek(0)
@@ -77,7 +77,7 @@ def run(lister, *words, data=b"", source=None, to=subprocess.PIPE, prepare=None,
             stdout=to,
             stderr=subprocess.PIPE,
             preexec_fn=prepare,
-            env=os.environ | (variables or {}),
+            env=variables or {},
             cwd=ROOT,
             timeout=LIMIT,
         )

@@ -1,4 +1,4 @@
-"""Document 01 once more, as plainly as it can be written, for the tests: slow, and sharing no code and no idea with crates/.
+"""The manual once more, as plainly as it can be written, for the tests: slow, and sharing no code and no idea with crates/.
 
 count(t, s) and check(t, s, beats) answer refusal and place as the document's table does; successor(t, s, beats) is the step.
 form_of(t, s, n) and number_of(t, s, beats) are the form of a number and the number of a form, by the groups of source 000's list
@@ -7,6 +7,8 @@ and not by walking. tree(n, ..) and schedule_of_tree(n, ..) go by nested pairs, 
 from functools import cache
 from itertools import product
 from math import comb
+
+from verifying import sure
 
 LARGEST = 32
 ACCEPTED = (0, 0)
@@ -82,7 +84,7 @@ def shifted(beats, k):
 
 
 def successor(t, s, beats):
-    """The next form of a schedule, by the rule as document 01 words it."""
+    """The next form of a schedule, by the rule as the manual words it."""
     rises = [k for k in range(2, len(beats) + 1) if beats[k - 2] == 0 and beats[k - 1] == 1]
     if not rises:
         return shifted(beats, len(beats)) if s > 0 else beats
@@ -125,7 +127,7 @@ def listed(t, s, place):
         if place < size:
             return listed(t - 1, i, place) + [1] + [0] * (s - i)
         place -= size
-    assert place == 0
+    sure(place == 0, f"the list S of ({t}, {s}) has no form so far behind its groups")
     return [1] * t + [0] * s
 
 
@@ -182,7 +184,7 @@ def tree_of(beats):
         return (read(), read()) if next(word) else None
 
     root = read()
-    assert next(word, None) is None
+    sure(next(word, None) is None, "beats go on behind the tree")
     return root
 
 
@@ -227,7 +229,7 @@ def closed(n):
     """All closed schedules of n tasks, by their tables."""
     words = [list(word) for word in product((0, 1), repeat=2 * n)]
     found = {key(tables_of(tree_of(word))): word for word in words if is_schedule(n, n, word)}
-    assert len(found) == forms(n, n)
+    sure(len(found) == forms(n, n), f"two closed schedules of {n} tasks have the same tables")
     return found
 
 

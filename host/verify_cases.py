@@ -1,18 +1,52 @@
 #!/usr/bin/env python3
-"""Holds every line of the stored outputs crates/cases_*/stdout to the oracle: what a line says of its input is worked out anew.
+"""Holds every line of the stored outputs crates/cases_*/stdout to the oracle: verify_cases.py [KIND ..].
 
-Prints a line for each kind of line that was verified, and fails on a wrong line or on one that it cannot read.
+Each program has the lines that it must have: all of Table 1 of source 000, the words of Figure 2.3 of source 001, every pair of counts or
+every count where a kind of line goes through them, the manual's examples that are no theorems, and of every other kind as many lines
+as are stated here. Then what a line says of its input is worked out anew; of these kinds alone, where some are given. Prints a line for
+each kind that was verified, and fails on a line that is missing, that is wrong, or that it cannot read.
 """
 import collections
 import itertools
-import pathlib
 import re
 import sys
 
 import oracle
 import packing
+from verifying import ROOT, Wrong, contents, ended, sure
 
-ROOT = pathlib.Path(__file__).resolve().parent.parent
+
+def pairs(largest):
+    """The allowed counts t, s with t up to a number, as the programs print them."""
+    return [f"{t} {s}" for t in range(largest + 1) for s in range(t + 1)]
+
+
+# The lines of each program by how they begin, of the kinds that go through all of something.
+TABLE_1 = range(9)  # the rows t of Table 1 of source 000; row t has the columns s from 0 to t
+FIGURE_2_3, WORDS = "4 4", 14  # the counts of the words of Figure 2.3 of source 001, and how many words there are
+THROUGH = {
+    "cases_ground": {"counts": [f"of {t}" for t in range(oracle.LARGEST + 1)], "lists": [f"of {t}" for t in TABLE_1]},
+    "cases_walk": {"order": pairs(4), "round": pairs(8)},
+    "cases_number": {"both": pairs(8), "ends": pairs(oracle.LARGEST)},
+    "cases_tree": {"trees": [*range(8)], "combinations": [1, 2]},
+    "cases_record": {"records": pairs(7), "scattered": [*range(8, oracle.LARGEST + 1)]},
+}
+# How many lines each program has of the other kinds, and those of them that the manual gives.
+STATED = {
+    "cases_ground": {"count": 8, "check": 42},
+    "cases_walk": {"next": 12, "changed": 12, "run": 19},
+    "cases_number": {"number": 33, "form": 25, "sheet": 26},
+    "cases_tree": {"tree": 69, "back": 98, "damage": 12},
+    "cases_record": {"write": 261, "read": 271, "filled": 16, "changes": 9},
+}
+EXAMPLES = {
+    "cases_ground": ("count 33 0", "count 2 3", "check 2 1 111", "check 2 2 1001", "check 2 1 11"),
+    "cases_walk": ("run 65535 3 2 11100", "run 65536 2 1 110"),
+    "cases_number": ("form 3 2 4 5", "form 3 2 5 5"),
+    "cases_tree": ("tree 6 111001001100 6 6 6", "back 1 0 0 1 2"),
+    "cases_record": (),
+}
+SOURCES = {"counts": "Table 1 of source 000", "lists": "Table 1 of source 000", "order": "Figure 2.3 of source 001"}
 
 
 def refused(refusal, place):
@@ -27,7 +61,7 @@ def beats_of(text):
 def counts_of(t):
     t = int(t)
     row = [oracle.forms(t, s) for s in range(t + 1)]
-    assert t >= len(oracle.TABLE_1) or row == oracle.TABLE_1[t]
+    sure(t not in TABLE_1 or row == oracle.TABLE_1[t], f"Table 1 of source 000 has another row {t}")
     return " ".join(map(str, row))
 
 
@@ -37,6 +71,7 @@ def lists_of(t):
     for s in range(9):
         lists = itertools.product((0, 1), repeat=t + s) if s <= t else []
         found.append(sum(1 for beats in lists if oracle.is_schedule(t, s, list(beats))))
+    sure(found[: t + 1] == oracle.TABLE_1[t], f"Table 1 of source 000 has another row {t}")
     return " ".join(map(str, found))
 
 
@@ -60,13 +95,14 @@ def circle(t, s):
     forms = [top]
     while (after := oracle.successor(t, s, forms[-1])) != top:
         forms.append(after)
-    assert len(forms) == oracle.forms(t, s) and all(oracle.is_schedule(t, s, f) for f in forms)
+    sure(len(forms) == oracle.forms(t, s), f"the circle of ({t}, {s}) has {len(forms)} forms")
+    sure(all(oracle.is_schedule(t, s, f) for f in forms), f"the circle of ({t}, {s}) leaves the schedules")
     return forms
 
 
 def order(t, s):
     forms = [text_of(f) for f in circle(int(t), int(s))]
-    assert (t, s) != ("4", "4") or forms == oracle.FIGURE_2_3
+    sure(f"{t} {s}" != FIGURE_2_3 or forms == oracle.FIGURE_2_3, "Figure 2.3 of source 001 has other words")
     return " ".join(forms + forms[:1])
 
 
@@ -81,7 +117,9 @@ def digest(forms):
 def round_of(t, s):
     forms = circle(int(t), int(s))
     worked = sum(oracle.changed(a, b) for a, b in zip(forms, forms[1:] + forms[:1]))
-    assert int(t) < 2 or int(s) < 1 or worked == 2 * len(forms) + 2 * oracle.forms(int(t) - 1, int(s) - 1) - 2
+    if int(t) >= 2 and int(s) >= 1:
+        right = 2 * len(forms) + 2 * oracle.forms(int(t) - 1, int(s) - 1) - 2
+        sure(worked == right, f"the round of ({t}, {s}) changes {worked} beats, and by the manual {right}")
     return f"{len(forms)} {worked} {digest(forms)} {text_of(forms[0])}"
 
 
@@ -102,8 +140,8 @@ def both(t, s):
     """Every form by its number: the circle as it is walked, which is also what the groups of the list give, both ways."""
     t, s = int(t), int(s)
     forms = circle(t, s)
-    assert forms == [oracle.form_of(t, s, n) for n in range(len(forms))]
-    assert [oracle.number_of(t, s, f) for f in forms] == list(range(len(forms)))
+    sure(forms == [oracle.form_of(t, s, n) for n in range(len(forms))], "the circle is not the list of the groups")
+    sure([oracle.number_of(t, s, f) for f in forms] == list(range(len(forms))), "the groups do not give the numbers of the circle")
     return f"{len(forms)} {digest(forms)}"
 
 
@@ -119,8 +157,8 @@ def ends(t, s):
     t, s = int(t), int(s)
     n = oracle.forms(t, s)
     forms = [oracle.form_of(t, s, x) for x in chosen(n)]
-    assert all(oracle.is_schedule(t, s, f) for f in forms)
-    assert [oracle.number_of(t, s, f) for f in forms] == chosen(n)
+    sure(all(oracle.is_schedule(t, s, f) for f in forms), "the groups have a form that is no schedule")
+    sure([oracle.number_of(t, s, f) for f in forms] == chosen(n), "a form of the groups has another number")
     return f"{n - 1} {oracle.numbered(t, s, n)} {digest(forms)}"
 
 
@@ -175,7 +213,7 @@ def trees(n):
     forms = circle(n, n)
     there = [after_tree(n, beats) for beats in forms]
     backs = [after_back(n, tables) for _, *tables, _ in there]
-    assert [left for *_, left in backs] == forms
+    sure([left for *_, left in backs] == forms, "the ways there and back do not undo each other")
     return tally(backs, itertools.chain(*zip(there, backs)))
 
 
@@ -201,7 +239,7 @@ def damaged(tables):
 
 def damage(text):
     beats = beats_of(text)
-    assert oracle.is_schedule(32, 32, beats)
+    sure(oracle.is_schedule(32, 32, beats), "the beats are no schedule of (32, 32)")
     whole = oracle.tables_of(oracle.tree_of(beats))
     backs = [after_back(32, tables) for tables in damaged(whole)]
     return tally(backs, backs)
@@ -255,7 +293,7 @@ def there_and_back(forms):
         said, left = reading(record, 66)
         same += said == (0, 0, t, s, oracle.number_of(t, s, beats), written[2]) and left[: t + s] == beats
         calls += [written, record, said, left]
-    assert same == 2 * len(forms)
+    sure(same == 2 * len(forms), "a record does not say its form again")
     return f"{same} {digest(calls)}"
 
 
@@ -310,30 +348,75 @@ KINDS = [
 
 
 def verify(line):
-    for kind, pattern, answer in KINDS:
+    """What is wrong with a line, or None."""
+    for _, pattern, answer in KINDS:
         match = pattern.fullmatch(line)
         if match:
             *inputs, said = match.groups()
-            right = answer(*inputs)
-            return (kind, None if said == right else f"{line!r} should say {right!r}")
-    return (None, f"{line!r} is a line of no known kind")
+            try:
+                right = answer(*inputs)
+            except (Wrong, ArithmeticError, LookupError, ValueError) as error:
+                return f"{line!r} cannot be worked out: {error}"
+            return None if said == right else f"{line!r} should say {right!r}"
+    return f"{line!r} is a line of no known kind"
+
+
+def kind_of(line):
+    return line.split(" ")[0]
+
+
+def source_faults():
+    """Where the oracle has not all of what it has from the sources."""
+    if [len(row) for row in oracle.TABLE_1] != [t + 1 for t in TABLE_1]:
+        yield "host/oracle.py: Table 1 of source 000 has the rows 0 to 8, and the columns 0 to t in row t"
+    if len(set(oracle.FIGURE_2_3)) != WORDS or len(oracle.FIGURE_2_3) != WORDS:
+        yield f"host/oracle.py: Figure 2.3 of source 001 has {WORDS} words"
+
+
+def missing_faults(program, lines):
+    """What a program's stored output has not that it must have, or has in another number."""
+    begun = {line.split(":")[0] for line in lines}
+    through = {kind: [f"{kind} {own}" for own in inputs] for kind, inputs in THROUGH[program].items()}
+    for kind, needed in through.items():
+        missing = [start for start in needed if start not in begun]
+        if missing:
+            source = f", of {SOURCES[kind]}" if kind in SOURCES else ""
+            yield f"{len(missing)} of {len(needed)} lines {kind!r}{source} are missing, first {missing[0]!r}"
+    for start in EXAMPLES[program]:
+        if start not in begun:
+            yield f"the manual's {start!r} is missing"
+    right = STATED[program] | {kind: len(needed) for kind, needed in through.items()}
+    got = collections.Counter(map(kind_of, lines))
+    for kind in sorted(right.keys() | got.keys()):
+        if got[kind] != right.get(kind, 0):
+            yield f"{got[kind]} lines {kind!r}, and {right.get(kind, 0)} should be there"
+
+
+def stored():
+    """The lines of each program's stored output, by its path."""
+    programs = {path.name for path in ROOT.glob("crates/cases_*")}
+    sure(programs == STATED.keys(), f"the programs are {sorted(programs)}, and {sorted(STATED)} are known here")
+    return {f"crates/{program}/stdout": contents(f"crates/{program}/stdout").splitlines() for program in sorted(programs)}
 
 
 def main():
-    seen = collections.Counter()
-    wrong = 0
-    files = sorted(ROOT.glob("crates/cases_*/stdout"))
-    for path in files:
-        for number, line in enumerate(path.read_text().splitlines(), 1):
-            kind, fault = verify(line)
-            seen[kind] += 1
-            if fault:
-                print(f"{path.relative_to(ROOT)}:{number}: {fault}")
-                wrong += 1
-    for kind, lines in sorted(seen.items(), key=str):
-        print(f"{kind}: {lines} lines")
-    return 1 if wrong or not files or not seen else 0
+    chosen = sys.argv[1:] or [kind for kind, *_ in KINDS]
+    unknown = set(chosen) - {kind for kind, *_ in KINDS}
+    sure(not unknown, f"no kind of line: {' '.join(sorted(unknown))}; the kinds are {' '.join(kind for kind, *_ in KINDS)}")
+    outputs = stored()
+    found = [*source_faults()]
+    for path, lines in outputs.items():
+        found += [f"{path}: {fault}" for fault in missing_faults(path.split("/")[1], lines)]
+    if not found:
+        numbered = [(f"{path}:{at}", line) for path, lines in outputs.items() for at, line in enumerate(lines, 1)]
+        verified = [(kind_of(line), where, verify(line)) for where, line in numbered if kind_of(line) in chosen]
+        found += [f"{where}: {fault}" for _, where, fault in verified if fault]
+        for kind, count in sorted(collections.Counter(kind for kind, *_ in verified).items()):
+            print(f"{kind}: {count} lines")
+    for fault in found:
+        print(fault)
+    return 1 if found else 0
 
 
 if __name__ == "__main__":
-    sys.exit(main())
+    sys.exit(ended(main))

@@ -1,6 +1,6 @@
 #!/usr/bin/env python3
-"""Holds docs/VACUITY.md to the tree: each public definition of specs/ that takes an argument, and each data type, has one row
-| definition | what it says | inside | outside |, and each reference there is a theorem of proofs/ or a line of a stored output.
+"""Holds docs/VACUITY.md to the tree: each public definition of specs/ that takes an argument, each data type, and what ALSO names has one
+row | definition | what it says | inside | outside |, and each reference there is a theorem of proofs/ or a line of a stored output.
 
 Of a predicate (Type-valued) and of a test (Bool-valued) the theorems are its own and take the right side: a predicate's outside
 denies it (→ ⊥), a test's inside is ≡ true and its outside ≡ false. Of any other definition the two columns differ.
@@ -8,21 +8,29 @@ denies it (→ ⊥), a test's inside is ≡ true and its outside ≡ false. Of a
 import re
 import sys
 
-from verify_claims import PLACE
-from verifying import ROOT, has, verdict
+from verifying import ROOT, code, contents, ended, has, places, tables, verdict
 
-ROW = re.compile(r"^\| `([\w./-]+)#([^`]+)` \|([^|]*)\|([^|]*)\|([^|]*)\|$", re.M)
-DEFINED = re.compile(r"^(?:abbrev |unfoldable )?pub (?!mod |use )(?:record |data )?(\S+) (.*(?:\n +[→(].*)*)", re.M)
+VACUITY = "docs/VACUITY.md"
+HEADER = ("definition", "what it says", "inside", "outside")
+ALSO = [("crates/refusal/proofs/Theorems.antt", "Given")]  # a predicate that stands in theorems alone
+PUBLIC = re.compile(r"^(?!pub (?:mod|use) )(?:\S.* )?pub .*(?:\n +.*)*", re.M)
+TYPE = re.compile(r"pub (?:record|data) (\S+) ((?:.|\n)*?) where(?: |\n|$)(?:.|\n)*")
+FUNCTION = re.compile(r"(?:abbrev |unfoldable )?pub (?!record |data )(\S+) (:(?: .*)?(?:\n +.*)*)")
+EXAMPLE = re.compile(r"crates/\w+/(?:proofs/.*\.antt|stdout)")
 
 
 def definitions(path):
-    """The public definitions of a file, each with its signature."""
-    return dict(DEFINED.findall((ROOT / path).read_text()))
+    """The public definitions of a file, each with its signature on one line; None for one that is not understood."""
+    found = {}
+    for text in PUBLIC.findall(code(path)):
+        match = TYPE.fullmatch(text) or FUNCTION.fullmatch(text)
+        name, signature = match.groups() if match else (text.split("\n")[0], None)
+        found[name] = signature and re.sub(r"\s+", " ", signature).strip()
+    return found
 
 
 def kind_of(signature):
     """Whether a definition is a constant, a data type, a predicate, a test or another function."""
-    signature = signature.removesuffix(" where")
     if signature == ": Type 0":
         return "data"
     if signature.endswith("Type 0"):
@@ -34,13 +42,12 @@ def kind_of(signature):
 
 def statement(path, name):
     """What a theorem says, or how a line of stored output begins; None where there is none such."""
-    text = (ROOT / path).read_text() if (ROOT / path).exists() else ""
-    if not re.search(r"^crates/\w+/(proofs/|stdout$)", path):
+    if not EXAMPLE.fullmatch(path) or not (ROOT / path).is_file() or not name:
         return None
     if path.endswith("/stdout"):
-        return name if re.search(rf"^{re.escape(name)}(?!\S)", text, re.M) else None
-    found = re.search(rf"^ *(?:pub )?{re.escape(name)} (:.*(?:\n +→.*|\n +≡.*)*)", text, re.M)
-    return found and found.group(1)
+        return name if re.search(rf"^{re.escape(name)}(?!\S)", contents(path), re.M) else None
+    found = re.search(rf"^ *(?:pub )?{re.escape(name)} (:.*(?:\n +→.*|\n +≡.*)*)", code(path), re.M)
+    return found and found.group(1).rstrip()
 
 
 def on_its_side(kind, name, said, inside):
@@ -53,39 +60,57 @@ def on_its_side(kind, name, said, inside):
 
 def faults(name, kind, inside, outside):
     for column, is_inside in ((inside, True), (outside, False)):
-        places = PLACE.findall(column)
-        if not places:
-            yield f"{name}: names no example {'inside' if is_inside else 'outside'}"
-        for path, example in places:
+        examples = places(column)
+        if not examples:
+            yield f"names no example {'inside' if is_inside else 'outside'}, or something that is none"
+        for path, example in examples or ():
             said = statement(path, example)
             if said is None:
-                yield f"{name}: {path} has no theorem or line {example}"
+                yield f"{path} has no theorem or line {example}"
             elif not on_its_side(kind, name, said, is_inside):
-                yield f"{name}: {example} is no example of it on this side"
-    for place in set(PLACE.findall(inside)) & set(PLACE.findall(outside)):
-        yield f"{name}: {place[1]} stands on both sides"
+                yield f"{example} is no example of it on this side"
+    for place in set(places(inside) or ()) & set(places(outside) or ()):
+        yield f"{place[1]} stands on both sides"
+
+
+def wanted():
+    """Each definition that has to have a row; and what of specs/ is not understood."""
+    rows, odd = [*ALSO], []
+    for file in sorted(ROOT.glob("crates/*/specs/**/*.antt")):
+        path = str(file.relative_to(ROOT))
+        for name, signature in definitions(path).items():
+            if signature is None:
+                odd.append(f"{path}: a public definition is not understood: {name}")
+            elif kind_of(signature) != "constant":
+                rows.append((path, name))
+    return rows, odd
+
+
+def row_faults(cells):
+    """What is wrong with a row that defines something, apart from others; and what it defines."""
+    where = places(cells[0]) or [("", "")]
+    path, name = where[0]
+    here = definitions(path) if path.endswith(".antt") and (ROOT / path).is_file() else {}
+    if len(where) != 1 or here.get(name) is None:
+        return (path, name), [f"there is no definition {cells[0]}"]
+    said = [] if cells[1] else ["nothing is said of it"]
+    return (path, name), said + [*faults(name, kind_of(here[name]), *cells[2:])]
 
 
 def main():
-    wanted = {}
-    for file in ROOT.glob("crates/*/specs/*.antt"):
-        path = str(file.relative_to(ROOT))
-        wanted.update({(path, name): kind_of(said) for name, said in definitions(path).items()})
-    found = []
-    rows = ROW.findall((ROOT / "docs/VACUITY.md").read_text())
-    seen = set()
-    for path, name, _, inside, outside in rows:
-        here = definitions(path) if (ROOT / path).exists() else {}
-        if name not in here:
-            found.append(f"{path} has no definition {name}")
-            continue
-        if (path, name) in seen:
-            found.append(f"{path}#{name} stands twice")
-        seen.add((path, name))
-        found += faults(name, kind_of(here[name]), inside, outside)
-    found += [f"{path}#{name} has no row" for (path, name), kind in wanted.items() if kind != "constant" and (path, name) not in seen]
+    needed, found = wanted()
+    rows, odd = tables(VACUITY, HEADER)
+    found += odd
+    seen = []
+    for row in rows:
+        definition, own = row_faults(row.cells)
+        if definition in seen:
+            own.append("stands twice")
+        seen.append(definition)
+        found += [f"{VACUITY}:{row.line}: {definition[1]}: {fault}" for fault in own]
+    found += [f"{path}#{name} has no row in {VACUITY}" for path, name in needed if (path, name) not in seen]
     return verdict(found, len(rows), "definitions")
 
 
 if __name__ == "__main__":
-    sys.exit(main())
+    sys.exit(ended(main))

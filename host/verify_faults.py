@@ -164,7 +164,7 @@ def reader_leaving(lister, prepare=None):
     with tempfile.TemporaryFile() as file:
         file.write(LONG.data)
         file.seek(0)
-        pipes = {"stdout": subprocess.PIPE, "stderr": subprocess.PIPE}
+        pipes = {"stdout": subprocess.PIPE, "stderr": subprocess.PIPE, "env": {}}
         with subprocess.Popen([lister.path], stdin=file, bufsize=0, preexec_fn=prepare, **pipes) as process:
             taken = process.stdout.read(1000)
             process.stdout.close()

@@ -1,26 +1,30 @@
 #!/usr/bin/env python3
 """Holds include/ghanveltri.h to the library.
 
-The header alone compiles as C99 and as C++11. Each function that crates/ghanveltri exports stands in the header with
-the same parameters, in the same order, under the same names and in the same widths, and it stands in the archive;
-neither has another. A slice is a pointer and then its length. The constants have the values of the crates. The archive
-brings no other name and no memory that can be written, and it needs nothing but the C library's memory functions, its
-read, write and open, and errno.
+The header alone compiles as C99 and as C++11. Each function that crates/ghanveltri exports, and the one that
+host/refusal_text.c defines, stands in the header with the same parameters, in the same order, under the same names and
+in the same widths, and it stands in the archive; neither has another. A slice is a pointer and then its length. The
+constants have the values of the crates. Every refusal has a text of its own. Every number in a comment is computed
+here, or listed with what holds it, and every mark is a claim. The archive brings no other name and no memory that can
+be written, and it needs nothing but the C library's memory functions, its read, write and open, and errno.
 
-The archive is target/host/libghanveltri.a, or what GV_ARCHIVE names. Prints each fault, and ends with status 1 if
-there is one.
+Prints each fault, and ends with status 1 if there is one.
 """
-import os
+import math
 import pathlib
 import re
 import subprocess
 import sys
+import tempfile
 
-from header import HEADER, constants, declared, output, prototype
+import oracle
+from header import ARCHIVE, HEADER, HOW, constants, declared, output, prototype, prototypes, refusals, texts
+from listing import LISTED, NOT_READ, NOT_WRITTEN
 from verifying import ROOT, verdict
 
 CRATES = ROOT / "crates"
-ARCHIVE = pathlib.Path(os.environ.get("GV_ARCHIVE") or ROOT / "target/host/libghanveltri.a")
+IN_C = ROOT / "host/refusal_text.c"
+SAMPLE = CRATES / "packing_list/stdin"
 
 STRICT = ("-pedantic", "-Wall", "-Wextra", "-Werror")
 LANGUAGES = {
@@ -30,9 +34,45 @@ LANGUAGES = {
 INCLUDES = {"stddef.h", "stdint.h"}
 BORROWED = {"memcpy", "memmove", "memset", "memcmp", "bcmp", "read", "write", "open", "__errno_location"}
 LENGTH = ("size_t", "length")
+UNKNOWN = "unknown refusal"
 
 EXPORT = re.compile(r'#\[no_mangle\]\s*pub extern "C" fn (\w+)\s*\(([^)]*)\)(?:\s*->\s*(\w+))?')
 SYMBOL = re.compile(r"^[0-9a-f ]{16} (\w) (.+)$", re.M)
+COMMENT = re.compile(r"/\*.*?\*/|//[^\n]*", re.S)
+MARK = re.compile(r"\[([A-Z]+\d+[a-z]?)\]")
+NUMBER = re.compile(r"[\w-]*\d[\w-]*")
+STACK = re.compile(r"up to (\d+) KB of stack")
+
+# Calls gv_packing_list, of standard input to standard output, on a stack of its own, and tells on standard error how
+# many bytes of it were written.
+STACK_PROGRAM = """
+#include <stdio.h>
+#include <string.h>
+#include <ucontext.h>
+
+static char stack[1 << 20];
+static uint64_t answer;
+
+static void list(void) {
+    answer = gv_packing_list(0, 1);
+}
+
+int main(void) {
+    static ucontext_t back, call;
+    size_t at = 0;
+    memset(stack, 0x55, sizeof stack);
+    getcontext(&call);
+    call.uc_stack.ss_sp = stack;
+    call.uc_stack.ss_size = sizeof stack;
+    call.uc_link = &back;
+    makecontext(&call, list, 0);
+    swapcontext(&back, &call);
+    while (stack[at] == 0x55)
+        at++;
+    fprintf(stderr, "%zu", sizeof stack - at);
+    return (int)answer;
+}
+"""
 
 
 def source(path):
@@ -48,7 +88,7 @@ def number_in(path, pattern):
     return int(found[0].replace("_", ""))
 
 
-# What the crates say.
+# What the source says.
 
 
 def in_c(name, kind):
@@ -63,7 +103,7 @@ def in_c(name, kind):
 
 
 def exported():
-    """The C view of each exported function."""
+    """The C view of each exported function of the crates."""
     functions = {}
     for path in sorted(CRATES.glob("ghanveltri/src/**/*.rt")):
         text = source(path.relative_to(CRATES))
@@ -77,6 +117,11 @@ def exported():
     return functions
 
 
+def defined_in_c():
+    """The functions that are C."""
+    return prototypes(output("gcc", "-E", "-P", "-std=c99", f"-I{HEADER.parent}", IN_C), "{")
+
+
 def constants_of_crates():
     """Every constant of the header with its value."""
     numbers = source("refusal/src/lib.rt").split("pub fn number")[1].split("pub fn place")[0]
@@ -87,14 +132,105 @@ def constants_of_crates():
     version = number_in("ghanveltri/src/lib.rt", r"const VERSION: u64 = ([\d_]+);")
     return named | {
         "GV_ACCEPTED": number_in("refusal/src/lib.rt", accepted),
-        "GV_LARGEST_COUNT": largest,
-        "GV_LONGEST_SCHEDULE": 2 * largest,
-        "GV_LONGEST_RUN": number_in("circle/src/lib.rt", r"pub const LONGEST_RUN: u64 = ([\d_]+);"),
+        "GV_MAX_TASKS": largest,
+        "GV_MAX_BEATS": 2 * largest,
+        "GV_MAX_STEPS": number_in("circle/src/lib.rt", r"pub const LONGEST_RUN: u64 = ([\d_]+);"),
         "GV_VERSION": version,
         "GV_VERSION_MAJOR": version // 1000000,
         "GV_VERSION_MINOR": version // 1000 % 1000,
         "GV_VERSION_PATCH": version % 1000,
     }
+
+
+# The numbers in the comments.
+
+
+def comments():
+    """Each comment of the header as one line, without the marks."""
+    for comment in COMMENT.findall(HEADER.read_text()):
+        yield " ".join(MARK.sub("", re.sub(r"^/\*|^ \*/?|^//|\*/$", "", comment, flags=re.M)).split())
+
+
+def in_code(pattern):
+    """What a pattern finds in the header outside its comments."""
+    return re.search(pattern, COMMENT.sub("", HEADER.read_text())).group(1)
+
+
+def largest_count():
+    """N(t, t) of the largest t, by the formula of the manual."""
+    t = constants()["GV_MAX_TASKS"]
+    return math.comb(2 * t, t) - math.comb(2 * t, t + 1)
+
+
+def changes():
+    """The changed beats of all steps of small counts, by the rule of the manual."""
+    some = [(t, s, oracle.form_of(t, s, n)) for t in range(6) for s in range(t + 1) for n in range(oracle.forms(t, s))]
+    *most, last = sorted({oracle.changed(form, oracle.successor(t, s, form)) for t, s, form in some})
+    return f"{', '.join(map(str, most))} or {last}"
+
+
+def version_formula():
+    """How a version is made of its parts, in the words of the macro."""
+    return in_code(r"#define GV_VERSION \((.*)\)").replace("GV_VERSION_", "").lower()
+
+
+def machine():
+    """The kind of machine that the archive is for."""
+    return re.search(r"Machine:.*?(\S+)$", output("readelf", "-h", ARCHIVE), re.M).group(1).lower()
+
+
+def page_section():
+    """The section of the manual that has the library's page."""
+    (page,) = ROOT.glob("host/man/ghanveltri.*")
+    return page.suffix[1:]
+
+
+def held():
+    """The words with a number that comments may say, each computed, or with what holds it."""
+    first = oracle.number_of(3, 2, [1, 1, 1, 0, 0])
+    return {
+        f"for {next(iter(LANGUAGES))} and C++": "the header is compiled as these",
+        f"({machine()})": "the archive's own head",
+        f"ghanveltri({page_section()})": "the page is there",
+        "t of them are 1 (": "the manual, A schedule",
+        "s are 0 (": "the manual, A schedule",
+        f"the form of number {first}": "the oracle's number of it",
+        f"s zeros has number {first} too": "the oracle's number of it",
+        "places are counted from 0": "functions_agree, by the places of host/independent.c",
+        "or 0 where there is none": "functions_agree",
+        "0 after a refusal": "functions_agree",
+        "and else 0": "functions_agree",
+        "gv_count_place answers 0:": "functions_agree",
+        "Its place is 0": "there is no function that answers another",
+        "even if the length is 0": "what a caller owes, of the empty schedule too",
+        "neither 0 nor 1": "the manual, Refusal numbers, 4",
+        "unused bits are not 0": "the manual, Refusal numbers, 11",
+        f"lengths of {8 * int(in_code(r'sizeof.size_t. == (.)'))} bits": "the line below it, which would not compile",
+        version_formula(): "the macro",
+        f"answers how many, 1 to {largest_count()}": "the formula",
+        f"would change, {changes()}, and": "the rule",
+        f"Answers {LISTED} when all was listed": "faults_are_told",
+        f"; {NOT_READ} when reading failed": "faults_are_told",
+        f"; {NOT_WRITTEN} when writing failed": "faults_are_told",
+        f"After {NOT_READ} and {NOT_WRITTEN} errno": "faults_are_told",
+        "sets it to 0 before finds 0 then": "faults_are_told",
+        f"up to {stack_said()} KB of stack": "measured, see stack_faults",
+    }
+
+
+def stack_said():
+    """The stack that the comments say gv_packing_list needs, in units of 1000 bytes."""
+    return next((int(found) for comment in comments() for found in STACK.findall(comment)), 0)
+
+
+def stack_used():
+    """The bytes of stack that gv_packing_list needs for the sample."""
+    with tempfile.TemporaryDirectory() as folder, open(SAMPLE, "rb") as sample:
+        program = pathlib.Path(folder, "program")
+        text = f'#include "{HEADER}"\n{STACK_PROGRAM}'
+        subprocess.run(["gcc", "-x", "c", "-", "-x", "none", ARCHIVE, "-o", program], input=text, text=True, check=True)
+        done = subprocess.run([program], stdin=sample, stdout=subprocess.DEVNULL, stderr=subprocess.PIPE, check=True)
+    return int(done.stderr)
 
 
 # Faults.
@@ -117,9 +253,55 @@ def differences(what, right, got, where):
         if name not in got:
             yield f"{what} {name} is not in the {where}"
         elif name not in right:
-            yield f"{what} {name} of the {where} is not in the crates"
+            yield f"{what} {name} of the {where} is not in the source"
         elif got[name] != right[name]:
-            yield f"{what} {name} of the {where} is {got[name]}, in the crates {right[name]}"
+            yield f"{what} {name} of the {where} is {got[name]}, in the source {right[name]}"
+
+
+def number_faults():
+    """A number in a comment that is in no words that are held, and such words that no comment says."""
+    said, right = [*comments()], held()
+    for comment in said:
+        spans = [match.span() for words in right for match in re.finditer(re.escape(words), comment)]
+        for number in NUMBER.finditer(comment):
+            if not any(start <= number.start() and number.end() <= end for start, end in spans):
+                around = comment[max(0, number.start() - 30) : number.end() + 30]
+                yield f"nothing holds the {number.group()} of a comment: .. {around} .."
+    for words, by in right.items():
+        if not any(words in comment for comment in said):
+            yield f"no comment says {words!r} ({by})"
+
+
+def stack_faults():
+    """The stack that is said is enough, and at most a quarter more than what is needed."""
+    said, used = 1000 * stack_said(), stack_used()
+    if not used <= said <= used * 5 / 4:
+        yield f"gv_packing_list needs {used} bytes of stack, and the header says {said}"
+
+
+def mark_faults():
+    claims = (ROOT / "docs/CLAIMS.md").read_text()
+    for mark in sorted({mark for comment in COMMENT.findall(HEADER.read_text()) for mark in MARK.findall(comment)}):
+        if f"\n| {mark} |" not in claims:
+            yield f"[{mark}] of the header is no claim"
+
+
+def text_faults():
+    """Each refusal has a text of its own, one line of printable ASCII, and any other number has that of none."""
+    named = refusals()
+    last = max(named.values())
+    others = {last + 1, last + 2, 2**31, 2**63, 2**64 - 1} | {n + 2**k for n in named.values() for k in (8, 16, 32)}
+    said = texts([*named.values(), *sorted(others)])
+    owners = {UNKNOWN: "no refusal"}
+    for name, number in named.items():
+        text = said[number]
+        if owners.setdefault(text, name) != name:
+            yield f"{name} has the text of {owners[text]}: {text!r}"
+        if not re.fullmatch(r"[!-~]([ -~]*[!-~])?", text):
+            yield f"the text of {name} is no line of printable ASCII: {text!r}"
+    for number in sorted(others):
+        if said[number] != UNKNOWN:
+            yield f"{number}, which is no refusal, has the text {said[number]!r}"
 
 
 def archive_faults(functions):
@@ -139,14 +321,17 @@ def archive_faults(functions):
 
 def main():
     if not ARCHIVE.exists():
-        print(f"there is no {ARCHIVE}: rt staticlib ghanveltri && host/build")
+        print(f"there is no {ARCHIVE}: {HOW}")
         return 1
-    functions = exported()
+    functions = exported() | defined_in_c()
     faults = [*compile_faults()]
     if not faults:
         faults += differences("function", functions, declared(), "header")
         faults += differences("constant", constants_of_crates(), constants(), "header")
+        faults += [*mark_faults(), *number_faults()]
     faults += archive_faults(functions)
+    if not faults:
+        faults += [*text_faults(), *stack_faults()]
     return verdict(faults, len(functions), "functions")
 
 

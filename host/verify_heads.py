@@ -1,38 +1,66 @@
 #!/usr/bin/env python3
 """Holds the head of every file of specs/ and proofs/ to what the file holds: each begins with a comment, and each name that a line
 --     name, name     what it is
-of it gives stands in the file below. A name that ends in .. stands for several."""
+of it gives is defined in the file below. Words behind a name are its arguments; an operator stands between two of them. A name that ends
+in .. stands for several. Where one space alone is behind the names they are the words up to the first without a comma; a line there that
+is a sentence, from a capital to a full stop or a colon, gives none. A file of specs/ that is not written by a script gives a name.
+"""
 import re
 import sys
 
-from verifying import ROOT, has, verdict
+from verifying import ROOT, contents, defined, ended, verdict
 
-LINE = re.compile(r"^--     (\S.*?)\s{2,}\S")
+LISTED = re.compile(r"--     (?=\S)(.*)")
+APART = re.compile(r"(.*?)\s{2,}\S.*")
+SENTENCE = re.compile(r"[A-Z].*[.:]")
+WORDS = re.compile(r"[^\s,]+(?:, [^\s,]+)*")
+WRITTEN = "not edited by hand"
+
+
+def head_of(path):
+    lines = contents(path).splitlines()
+    length = next((at for at, line in enumerate(lines) if not line.startswith("--")), len(lines))
+    return lines[:length]
 
 
 def names(head):
+    """What the lines of a head list, each with its arguments."""
     for line in head:
-        listed = LINE.match(line)
-        if listed:
-            yield from (name.split(" ")[0] for name in listed.group(1).split(", "))
+        listed = LISTED.fullmatch(line)
+        apart = listed and APART.fullmatch(listed.group(1))
+        if apart:
+            yield from apart.group(1).split(", ")
+        elif listed and not SENTENCE.fullmatch(listed.group(1)):
+            yield from WORDS.match(listed.group(1)).group().split(", ")
+
+
+def is_there(listed, own):
+    name, *arguments = listed.split(" ")
+    if name.endswith(".."):
+        return sum(1 for other in own if other.startswith(name[:-2])) > 1
+    return name in own or (len(arguments) == 2 and f"_{arguments[0]}_" in own)
 
 
 def faults(path):
-    lines = path.read_text().splitlines()
-    length = next((at for at, line in enumerate(lines) if not line.startswith("--")), len(lines))
-    if not length:
+    head = head_of(path)
+    listed = [*names(head)]
+    if not head:
         yield "has no head"
-    body = "\n".join(lines[length:])
-    for name in names(lines[:length]):
-        if not name.endswith("..") and not has(body, name):
-            yield f"has no {name}"
+    elif "/specs/" in path and not listed and WRITTEN not in head[0]:
+        yield "lists no name in its head"
+    own = defined(path)
+    for name in listed:
+        if not is_there(name, own):
+            yield f"defines no {name.split(' ')[0]}"
 
 
 def main():
     files = [path for part in ("specs", "proofs") for path in sorted(ROOT.glob(f"crates/*/{part}/**/*.antt")) if path.name != "Lib.antt"]
-    found = [f"{path.relative_to(ROOT)} {fault}" for path in files for fault in faults(path)]
-    return verdict(found, len(files), "heads")
+    paths = [str(path.relative_to(ROOT)) for path in files]
+    found = [f"{path} {fault}" for path in paths for fault in faults(path)]
+    listed = sum(len([*names(head_of(path))]) for path in paths)
+    return verdict(found, listed and len(files), f"heads, which list {listed} names")
 
 
 if __name__ == "__main__":
-    sys.exit(main())
+    sys.exit(ended(main))

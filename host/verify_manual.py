@@ -1,8 +1,9 @@
 #!/usr/bin/env python3
 """Holds the manual pages of host/man to the header and to the command.
 
-ghanveltri(3) declares each function of the header as it stands there and says something of it, gives each refusal with its number, and
-names nothing else. packing_list(1) names the options of --help; its example is document 01's, and prints what it shows. Both have the
+ghanveltri(3) declares each function of the header as it stands there and says something of it, gives each refusal with
+its number and its text, names each limit, and names nothing else; a number behind the name of a constant is its value.
+packing_list(1) names the options of --help; its example is the manual's, and prints what it shows. Both have the
 header's version, and groff formats them without a warning. Prints each fault, and ends with status 1 if there is one.
 """
 import os
@@ -13,12 +14,13 @@ import subprocess
 import sys
 import tempfile
 
-from header import constants, declared, prototypes, version
+from header import ARCHIVE, HEADER, HOW, constants, declared, prototypes, refusals, texts, version
 from listing import COMMAND, missing
 from verifying import ROOT, has, verdict
 
 PAGES = ROOT / "host/man"
-NO_REFUSALS = re.compile(r"GV_(VERSION|LARGEST_|LONGEST_)")
+LISTED = re.compile(r"^(GV_\w+) \((\d+)\)\n(.*)[.:]$", re.M)  # a refusal, its number and its text
+STACK = re.compile(r"(\d+) KB of stack")
 
 
 def unescaped(text):
@@ -48,21 +50,48 @@ def differences(what, right, got):
     """What a page has otherwise than the header."""
     for name in sorted(right.keys() | got.keys()):
         if got.get(name) != right.get(name):
-            yield f"ghanveltri.3: {what} {name} is {got.get(name, 'missing')}, in the header {right.get(name, 'missing')}"
+            is_now, should = got.get(name, "missing"), right.get(name, "missing")
+            yield f"ghanveltri.3: {what} {name} is {is_now}, in the library {should}"
+
+
+def refusal_faults(parts):
+    """Each refusal stands once in its section, with its number and its text; the text of no refusal is said."""
+    beyond = max(refusals().values()) + 1
+    said = texts([*refusals().values(), beyond])
+    right = {name: f"{number}, {said[number]!r}" for name, number in refusals().items()}
+    given = LISTED.findall(parts["REFUSALS"])
+    yield from differences("refusal", right, {name: f"{number}, {words!r}" for name, number, words in given})
+    if len(given) != len({name for name, *_ in given}):
+        yield "ghanveltri.3: a refusal stands twice"
+    if not has(parts["DESCRIPTION"], said[beyond]):
+        yield f"ghanveltri.3: {said[beyond]!r} is not said"
+
+
+def number_faults(text):
+    """A number behind a constant's name is its value, each limit is named, major version and stack are the header's."""
+    values = constants()
+    for name, number in re.findall(r"\b(GV_\w+) \((\d+)\)", text):
+        if int(number) != values.get(name):
+            yield f"ghanveltri.3: {name} is {number}, in the header {values.get(name)}"
+    for name in values:
+        if name.startswith("GV_MAX_") and not has(text, name):
+            yield f"ghanveltri.3: nothing is said of {name}"
+    for major in set(re.findall(r"libghanveltri\.so\.(\d+)", text)) - {str(version()[0])}:
+        yield f"ghanveltri.3: libghanveltri.so.{major} is of another version"
+    if STACK.findall(text) != STACK.findall(HEADER.read_text()):
+        yield "ghanveltri.3: another stack than in the header"
 
 
 def library_faults(functions):
     parts = sections("ghanveltri.3")
-    refusals = {name: value for name, value in constants().items() if not NO_REFUSALS.match(name)}
+    text = "\n".join(parts.values())
     yield from differences("function", functions, prototypes(parts["SYNOPSIS"]))
-    given = re.findall(r"^(GV_\w+) \((\d+)\)$", parts["REFUSALS"], re.M)
-    yield from differences("refusal", refusals, {name: int(number) for name, number in given})
-    if len(given) != len(set(name for name, _ in given)):
-        yield "ghanveltri.3: a refusal stands twice"
+    yield from refusal_faults(parts)
+    yield from number_faults(text)
     for name in functions:
         if not has(parts["DESCRIPTION"], name):
             yield f"ghanveltri.3: nothing is said of {name}"
-    for name in set(re.findall(r"\b(?:gv|GV)_\w+", "\n".join(parts.values()))) - functions.keys() - constants().keys():
+    for name in set(re.findall(r"\b(?:gv|GV)_\w+", text)) - functions.keys() - constants().keys():
         yield f"ghanveltri.3: there is no {name}"
 
 
@@ -80,7 +109,8 @@ def example_faults():
         made = orders.read_bytes() if orders.exists() else b""
     if (done.returncode, done.stdout) != (0, right):
         yield f"packing_list.1: the example ends with {done.returncode} and prints {done.stdout!r}"
-    if (made, right.encode()) != tuple((ROOT / "crates/packing_list" / name).read_bytes() for name in ("stdin", "stdout")):
+    sample = ROOT / "crates/packing_list"
+    if (made, right.encode()) != ((sample / "stdin").read_bytes(), (sample / "stdout").read_bytes()):
         yield "packing_list.1: the example is not the sample"
 
 
@@ -99,14 +129,15 @@ def page_faults(page):
     title = page.read_text().split("\n")[0]
     if f'"ghanveltri {right}"' not in title:
         yield f"{page.name}: another version than the header's, {right}"
-    done = subprocess.run(["groff", "-man", "-Tascii", "-ww", "-z", page], stdout=subprocess.PIPE, stderr=subprocess.STDOUT, text=True)
+    command = ["groff", "-man", "-Tascii", "-ww", "-z", page]
+    done = subprocess.run(command, stdout=subprocess.PIPE, stderr=subprocess.STDOUT, text=True)
     if done.returncode or done.stdout:
         yield f"{page.name}: groff says {done.stdout.strip()}"
 
 
 def main():
-    if missing():
-        print(missing())
+    if not ARCHIVE.exists() or missing():
+        print(missing() or f"there is no {ARCHIVE}: {HOW}")
         return 1
     functions = declared()
     pages = sorted(PAGES.iterdir())

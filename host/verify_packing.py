@@ -1,9 +1,13 @@
 #!/usr/bin/env python3
 """Holds the packing list to host/packing.py [E11]: the same bytes out for the same bytes in, from a file and through a pipe in pieces.
 
-Both programs of host/listing.py are run, or what GV_PACKING_LIST names. The mixed records come from a new seed, which is printed;
-GV_SEED repeats one. Prints a line for each part, and ends with status 1 at the first difference.
+  verify_packing.py [--program FILE] [--seed NUMBER] [PART ..]
+
+Both programs of host/listing.py are run, or the one that --program names. The mixed records come from a new seed, which is printed; --seed
+repeats one. Where parts are named they alone are run, and that every refusal was met is not asked. No variable of the environment is read,
+and the programs get none. Prints a line for each part, and ends with status 1 at the first difference, 2 where the call is wrong.
 """
+import argparse
 import fcntl
 import itertools
 import os
@@ -20,15 +24,12 @@ import packing
 import records
 from listing import BOTH, LIMIT, Difference, missing
 
-NAMED = os.environ.get("GV_PACKING_LIST")
-PROGRAMS = [NAMED] if NAMED else [lister.path for lister in BOTH]
-SEED = int(os.environ.get("GV_SEED") or random.SystemRandom().getrandbits(32))
 MIXED = 100_000
 BLOCKS = (4096, 65536)
 PIECES = (1, 7, 4095, 2, 65535, 13, 4096, 3, 1021)
 REFUSALS = {1, 2, 5, 6, 7, 9, 10, 11}  # those that a record can get
 
-# The input and the output as document 01 gives them.
+# The input and the output as the manual gives them.
 SAMPLE = [
     bytes.fromhex(line)
     for line in (
@@ -46,7 +47,7 @@ def from_file(program, data):
     with tempfile.TemporaryFile() as file:
         file.write(data)
         file.seek(0)
-        done = subprocess.run([program], stdin=file, stdout=subprocess.PIPE, timeout=LIMIT)
+        done = subprocess.run([program], stdin=file, stdout=subprocess.PIPE, timeout=LIMIT, env={})
     return (done.returncode, done.stdout)
 
 
@@ -76,7 +77,7 @@ def deliver(process, data, sizes):
 def in_pieces(program, data, sizes=PIECES):
     """The same through a pipe that delivers in pieces."""
     with tempfile.TemporaryFile() as file:
-        with subprocess.Popen([program], stdin=subprocess.PIPE, stdout=file, bufsize=0) as process:
+        with subprocess.Popen([program], stdin=subprocess.PIPE, stdout=file, bufsize=0, env={}) as process:
             try:
                 deliver(process, data, sizes)
                 status = process.wait(LIMIT)
@@ -122,7 +123,9 @@ def first_difference(data, right, got):
 class Verifier:
     """Runs inputs, and keeps how many runs there were and which refusals they should meet."""
 
-    def __init__(self):
+    def __init__(self, programs, seed):
+        self.programs = programs
+        self.seed = seed
         self.runs = 0
         self.refusals = set()
 
@@ -132,7 +135,7 @@ class Verifier:
         if right is not None and computed != right:
             raise Difference(f"{name}: host/packing.py is wrong: {computed!r}")
         self.refusals |= {int(line.split()[1]) for line in computed.splitlines() if line.startswith(b"refused")}
-        for program, feed in itertools.product(PROGRAMS, feeds or (from_file,)):
+        for program, feed in itertools.product(self.programs, feeds or (from_file,)):
             self.runs += 1
             status, got = feed(program, data)
             if got != computed:
@@ -313,33 +316,53 @@ def output_ends(verifier):
     for block in BLOCKS:
         for start in range(-width - 2, 3):
             before = lines_of_length(block + start)
-            assert len(packing.output(before)) == block + start
+            if len(packing.output(before)) != block + start:
+                raise Difference(f"the lines before {block}{start:+} have another length")
             verifier.verify(f"longest line from {block}{start:+}", before + longest + BEHIND)
 
 
 def mixed(verifier):
-    data = b"".join(records.stream(SEED, MIXED))
-    print(f"{MIXED} mixed records, {len(data)} bytes, GV_SEED={SEED}", flush=True)
-    verifier.verify(f"mixed, GV_SEED={SEED}", data, from_file, in_pieces)
+    data = b"".join(records.stream(verifier.seed, MIXED))
+    print(f"{MIXED} mixed records, {len(data)} bytes, --seed {verifier.seed}", flush=True)
+    verifier.verify(f"mixed, --seed {verifier.seed}", data, from_file, in_pieces)
+
+
+PARTS = {part.__name__: part for part in (sample, cuts, limits, corners, block_ends, piece_ends, output_ends, mixed)}
+
+
+def arguments():
+    parser = argparse.ArgumentParser(description="Holds the packing list to host/packing.py.", allow_abbrev=False)
+    parser.add_argument("--program", metavar="FILE", help="the program that is run; without it both of host/listing.py")
+    parser.add_argument("--seed", metavar="NUMBER", type=int, help="repeats the mixed records of a run", default=None)
+    parser.add_argument("parts", metavar="PART", nargs="*", help=", ".join(PARTS))
+    given = parser.parse_args()
+    for part in given.parts:
+        if part not in PARTS:
+            parser.error(f"no part {part}; the parts are {', '.join(PARTS)}")
+    if given.program and not os.access(given.program, os.X_OK):
+        parser.error(f"{given.program} is no program")
+    return given
 
 
 def main():
-    if not NAMED and missing():
+    given = arguments()
+    if not given.program and missing():
         print(missing())
         return 1
-    verifier = Verifier()
-    for part in (sample, cuts, limits, corners, block_ends, piece_ends, output_ends, mixed):
+    programs = [os.path.abspath(given.program)] if given.program else [lister.path for lister in BOTH]
+    verifier = Verifier(programs, random.SystemRandom().getrandbits(32) if given.seed is None else given.seed)
+    for name in given.parts or PARTS:
         before = verifier.runs
         try:
-            part(verifier)
+            PARTS[name](verifier)
         except Difference as difference:
             print(difference)
             return 1
         except subprocess.TimeoutExpired:
-            print(f"{part.__name__}: no end after {LIMIT} seconds")
+            print(f"{name}: no end after {LIMIT} seconds")
             return 1
-        print(f"{part.__name__}: {verifier.runs - before} runs", flush=True)
-    if verifier.refusals != REFUSALS:
+        print(f"{name}: {verifier.runs - before} runs", flush=True)
+    if not given.parts and verifier.refusals != REFUSALS:
         print(f"refusals met are {sorted(verifier.refusals)}")
         return 1
     return 0

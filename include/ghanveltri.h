@@ -1,5 +1,6 @@
 /*
- * ghanveltri.h: numbered task schedules, for C99 and C++. Link with libghanveltri.a (x86-64). [W3] [F4]
+ * ghanveltri.h: numbered task schedules, for C99 and C++. Link with libghanveltri.so or libghanveltri.a
+ * (x86-64); ghanveltri(3) says how. [W3] [F4]
  *
  * A schedule of counts t, s is t + s bytes, its beats: t of them are 1 (a task is taken up), s are 0 (one is
  * set down), and none sets down with nothing in hand. The schedules of one pair of counts, its forms, stand
@@ -10,10 +11,10 @@
  * - It takes every number and every content of the lent bytes, and ends. It does its work, or refuses by one
  *   of the numbers below. A refused call leaves every lent byte as it was. gv_packing_list refuses nothing: it
  *   ends when its input does, and answers numbers of its own.
- * - It answers one number. Of check, count and number each part has a function of its own: `_refusal` answers
- *   GV_ACCEPTED or the refusal, `_place` the beat at fault, or 0 where there is none, and gv_count and
- *   gv_number the value, 0 after a refusal. gv_form, gv_next and gv_run answer GV_ACCEPTED or the refusal, and
- *   `_changed` the beats that a step or a run would change, 0 after a refusal.
+ * - It answers one number; gv_refusal_text alone answers a text. Of check, count and number each part has a
+ *   function of its own: `_refusal` answers GV_ACCEPTED or the refusal, `_place` the beat at fault, or 0 where
+ *   there is none, and gv_count and gv_number the value, 0 after a refusal. gv_form, gv_next and gv_run answer
+ *   GV_ACCEPTED or the refusal, and `_changed` the beats that a step or a run would change, 0 after a refusal.
  * - A slice is a pointer and, right behind it, its length in bytes. Nothing outside the slice is read or
  *   written, and a slice that is lent as const is only read.
  * - The caller owes a pointer that is valid for the length, and is not NULL even if the length is 0; slices
@@ -40,17 +41,18 @@ extern "C" {
 #define GV_VERSION_PATCH 0
 #define GV_VERSION (GV_VERSION_MAJOR * 1000000 + GV_VERSION_MINOR * 1000 + GV_VERSION_PATCH)
 
-#define GV_LARGEST_COUNT 32    /* the largest t; s is at most t */
-#define GV_LONGEST_SCHEDULE 64 /* the largest t + s */
-#define GV_LONGEST_RUN 65535   /* the most steps of a run */
+#define GV_MAX_TASKS 32    /* the largest t; s is at most t */
+#define GV_MAX_BEATS 64    /* the largest t + s */
+#define GV_MAX_STEPS 65535 /* the most steps of a run */
 
 /*
- * The refusals. A number never changes its meaning; new ones follow the last. The functions below give 1 to 7
- * and 13. The others are of parts of the library that have no C function: tree tables (8), order records (9
- * to 12) and sheets (12). The lines of gv_packing_list name those of order records. [R1] [R2]
+ * The refusals. A number never changes its meaning; new ones follow the last. The functions below give those
+ * from GV_TOO_MANY_TASKS to GV_NO_SUCH_NUMBER, and GV_RUN_TOO_LONG. The others are of parts of the library that
+ * have no C function: tree tables (GV_NO_SUCH_TABLES), order records (GV_CUT_SHORT to GV_NO_ROOM) and sheets
+ * (GV_NO_ROOM). A line of gv_packing_list names what its record is refused for. [R1] [R2]
  */
 #define GV_ACCEPTED 0          /* no refusal */
-#define GV_TOO_MANY_TASKS 1    /* t is above GV_LARGEST_COUNT */
+#define GV_TOO_MANY_TASKS 1    /* t is above GV_MAX_TASKS */
 #define GV_MORE_DOWN_THAN_UP 2 /* s is above t */
 #define GV_WRONG_LENGTH 3      /* the slice is not t + s bytes long */
 #define GV_BAD_BEAT 4          /* a beat is neither 0 nor 1; the place is the first such beat */
@@ -62,7 +64,7 @@ extern "C" {
 #define GV_UNKNOWN_KIND 10     /* a record is of an unknown kind */
 #define GV_WRONG_SIZE 11       /* a record's length is wrong for its kind, or its unused bits are not 0 */
 #define GV_NO_ROOM 12          /* not enough room is lent, or a sheet is too short */
-#define GV_RUN_TOO_LONG 13     /* the steps are above GV_LONGEST_RUN */
+#define GV_RUN_TOO_LONG 13     /* the steps are above GV_MAX_STEPS */
 
 /* The library takes lengths of 64 bits: where size_t has another width this line does not compile. */
 typedef char gv_size_t_has_64_bits[sizeof(size_t) == 8 ? 1 : -1];
@@ -72,6 +74,15 @@ typedef char gv_size_t_has_64_bits[sizeof(size_t) == 8 ? 1 : -1];
  * the library are of one version.
  */
 uint64_t gv_version(void);
+
+/*
+ * What does a refusal mean, in a few words?
+ * Answers a text for each refusal and for GV_ACCEPTED, and "unknown refusal" for any other number: one line of
+ * ASCII without its line end, and never NULL. The bytes are the library's; nobody writes or frees them, and they
+ * stay as long as it is loaded. A later version may word them otherwise.
+ * In: refusal. It is the one function that is written in C, and not proved.
+ */
+const char *gv_refusal_text(uint64_t refusal);
 
 /*
  * Is this a schedule of t, s?
@@ -141,14 +152,15 @@ uint64_t gv_run_changed(uint64_t t, uint64_t s, const uint8_t *beats, size_t len
 
 /*
  * Lists the order records of one open descriptor to another, a line for each, as the command packing_list
- * does: up to the end of the input, or to a record that is refused 9.
- * Answers 0 when all was listed, a stop behind a 9 included; 1 when reading failed, behind the lines of all
- * records that had come; 2 when writing failed, and what was written is the start of the list. A call that was
- * interrupted is made again. An input or output that is not ready (O_NONBLOCK) is a failure, and no end.
+ * does: up to the end of the input, or to a record that is refused with GV_CUT_SHORT.
+ * Answers 0 when all was listed, a stop after such a record included; 1 when reading failed, after the lines
+ * of all records that had come; 2 when writing failed, and what was written is the start of the list. A call
+ * that was interrupted is made again. An input or output that is not ready (O_NONBLOCK) is a failure, and no
+ * end.
  * After 1 and 2 errno says why. A write that takes no byte is a failure too, and sets no errno: a caller who
  * sets it to 0 before finds 0 then, or EINTR from a call that was made again.
  * In: from, a descriptor open for reading; to, one open for writing. Any other number is a failure like the
- * rest. Both stay open, and `from` may have been read past a 9.
+ * rest. Both stay open, and `from` may have been read past the record that stopped the list.
  * It waits as long as the system's read and write do, and needs up to 150 KB of stack. Signals are the
  * caller's affair: SIGPIPE (a reader left) and SIGXFSZ (a limit of size) end a process that does not ignore,
  * block or catch them. [E18]

@@ -1,5 +1,5 @@
 #!/usr/bin/env python3
-"""Writes the table of counts, src/table.rt and specs/Table.antt, from the addition rule of document 01.
+"""Writes the table of counts, src/table.rt and specs/Table.antt, from the addition rule of the manual.
 
 The largest count is read from specs/Count.antt, the one place of the definitions that names it. The look-up has the counts with s up to t row after
 row, in three parts of whole rows, since a match of all of them is more than one function's check takes.
@@ -11,7 +11,17 @@ import re
 import sys
 
 HERE = pathlib.Path(__file__).resolve().parent
-LARGEST = int(re.search(r"^largest = (\d+)$", (HERE / "specs/Count.antt").read_text(), re.M).group(1))
+
+
+def largest():
+    """What specs/Count.antt says."""
+    found = re.findall(r"^largest = (\d+)$", (HERE / "specs/Count.antt").read_text(), re.M)
+    if len(found) != 1:
+        sys.exit("specs/Count.antt has not one line 'largest = NUMBER'")
+    return int(found[0])
+
+
+LARGEST = largest()
 SIZE = LARGEST + 1
 
 
@@ -44,7 +54,7 @@ def rattle(rows):
     out += ["// Written by table.py from the largest count in specs/Count.antt; not edited by hand."]
     out += ["ghost use mathlib.Core.Path.{_≡_};", "ghost use Prim.Native.Nat.{_≤_};", "ghost use lib.ListN.{getD};"]
     out += ["ghost use Rattle.triangle.specs.Count.{largest};"]
-    out += ["ghost use Rattle.triangle.specs.Table.{at, low, middle, high};", ""]
+    out += ["ghost use Rattle.triangle.specs.Table.{table, at, low, middle, high};", ""]
     out += ["// The largest number of tasks that a schedule takes up.", f"pub const LARGEST: u64 = {LARGEST};", ""]
     out += ["// One row for each t from 0 to LARGEST, each row with LARGEST + 1 counts, zeros past s = t."]
     out += [f"const FORMS: [[u64; {SIZE}]; {SIZE}] = ["]
@@ -55,6 +65,8 @@ def rattle(rows):
     out += ["fn listed(t: u64, s: u64) -> u64", "    ensures { λ r. ⌜ r ≡ at t s ⌝ }", "{"]
     out += ["    if LARGEST < t {", "        return 0;", "    }", "    if LARGEST < s {", "        return 0;", "    }"]
     out += ["    FORMS[t as usize][s as usize]", "}", ""]
+    out += ["// The whole table."]
+    out += [f"pub fn rows() -> [[u64; {SIZE}]; {SIZE}]", "    ensures { λ r. ⌜ r ≡ table ⌝ }", "{", "    FORMS", "}", ""]
     for name, first, part in parts(rows):
         counts = [n for row in part for n in row]
         out += [f"// The entry at t, s, which stands at i among the counts with s up to t from row {first} on."]
@@ -95,6 +107,8 @@ def antt(rows):
 
 
 def main():
+    if sys.argv[1:] not in ([], ["--check"]):
+        return "table.py, or table.py --check; nothing was written"
     rows = triangle()
     stale = 0
     for name, text in (("src/table.rt", rattle(rows)), ("specs/Table.antt", antt(rows))):

@@ -1,4 +1,4 @@
-// Both sides of each refusal of the count and of the check, and the examples of document 01.
+// Both sides of each refusal of the count and of the check, and the examples of the manual.
 
 fn ask_count(t: u64, s: u64) {
     show::text(b"count ");
@@ -22,7 +22,7 @@ fn ask(t: u64, s: u64, beats: &[u8]) {
     show::text(b"\n");
 }
 
-// Refusals 1 and 2 of a count, 1 first; document 01's (33, 0) and (2, 3).
+// Refusals 1 and 2 of a count, 1 first; the manual's (33, 0) and (2, 3).
 pub fn counts() {
     ask_count(32, 32);
     ask_count(33, 0);

@@ -1,4 +1,4 @@
-// Runs the count and the check on the examples of document 01, on Table 1 of source 000 and on both
+// Runs the count and the check on the examples of the manual, on Table 1 of source 000 and on both
 // sides of every refusal that they can give. The file stdout says what it must print; each line of it
 // is worked out again by host/oracle.py, without this code.
 mod checks;

@@ -1,5 +1,5 @@
 // Numbers forms and makes the forms of numbers: every number of the small counts, some of every count,
-// and the examples of document 01, "The number", "Onto the sheet" and "Easy to get wrong". The file stdout
+// and the examples of the manual, "The number", "Onto the sheet" and "Easy to get wrong". The file stdout
 // says what it must print; each line of it is worked out again by host/oracle.py, without this code.
 mod asks;
 mod numbers;

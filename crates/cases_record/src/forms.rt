@@ -42,7 +42,7 @@ fn print_form(t: u64, s: u64, x: u64) {
     print_form_in(t, s, x, &mut beats[..n]);
 }
 
-// The forms of the examples of document 01; those of (3,2) all.
+// The forms of the examples of the manual; those of (3,2) all.
 pub fn small() {
     print_form(0, 0, 0);
     print_form(1, 1, 0);

@@ -1,4 +1,4 @@
-// Inputs as document 01 spells its records: bytes in hex, the first one first, in one number or two.
+// Inputs as the manual spells its records: bytes in hex, the first one first, in one number or two.
 // A call with numbers is proved more quickly than one with a slice.
 use crate::asks;
 

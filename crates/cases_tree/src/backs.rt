@@ -82,7 +82,7 @@ fn ask(n: u64, tables: &[u8]) {
     asks::back(n, &tables[..k], &tables[k..m], &tables[m..], m);
 }
 
-// Refusal 8: document 01's tables 0, 0, 1, and entries above n.
+// Refusal 8: the manual's tables 0, 0, 1, and entries above n.
 pub fn entries() {
     ask(1, &[0, 0, 0]);
     ask(1, &[0, 0, 1]);

@@ -1,4 +1,4 @@
-// Turns closed schedules into tree tables and tables into schedules: document 01, "Tree table". All schedules
+// Turns closed schedules into tree tables and tables into schedules: the manual, "Tree table". All schedules
 // of the small counts and some of the largest go there and back, all small tables and many large ones with one
 // entry changed go back, and both ways are asked on both sides of every refusal. The file stdout says what it
 // must print; each line of it is worked out again by host/oracle.py, without this code.

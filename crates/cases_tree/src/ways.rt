@@ -1,9 +1,9 @@
-// Closed schedules there and back: the example of document 01, all schedules of 0 to 3 tasks in full, and
+// Closed schedules there and back: the example of the manual, all schedules of 0 to 3 tasks in full, and
 // all of 0 to 7 tasks in digests.
 use crate::asks;
 use crate::folds;
 
-// Document 01's tree of 111001001100.
+// The manual's tree of 111001001100.
 pub fn example() {
     asks::both(6, &[1, 1, 1, 0, 0, 1, 0, 0, 1, 1, 0, 0]);
 }

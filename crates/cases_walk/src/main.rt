@@ -1,4 +1,4 @@
-// Walks the circles of small counts and runs the examples of document 01, "The step" and "Easy to get
+// Walks the circles of small counts and runs the examples of the manual, "The step" and "Easy to get
 // wrong", and the fourteen words of Figure 2.3 of source 001. The file stdout says what it must print;
 // each line of it is worked out again by host/oracle.py, without this code.
 mod circles;

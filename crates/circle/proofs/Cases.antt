@@ -1,4 +1,4 @@
--- The definitions of specs/ on small inputs, by computing them: document 01, "Easy to get wrong" and "Examples on
+-- The definitions of specs/ on small inputs, by computing them: the manual, "Easy to get wrong" and "Examples on
 -- both sides" [E5]; for each predicate and test one that fits and one refused for each part. The examples marked P are
 -- in the crate `demands`. Assumes nothing.
 use mathlib.Core.Bool.{true, false}

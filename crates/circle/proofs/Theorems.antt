@@ -1,4 +1,4 @@
--- The circle and the work of its steps: the letter, demand 3, and document 01, "The step". Each once over t and s.
+-- The circle and the work of its steps: the letter, demand 3, and the manual, "The step". Each once over t and s.
 --     next-form             the next form of a schedule of t, s is a schedule of t, s [O1a]
 --     no-01-top             with no 0 followed by 1 a schedule is t ones and then s zeros [S3]
 --     circle                for every two forms there is that one number of steps [D3b]

@@ -1,4 +1,4 @@
--- What the step and the run answer and leave, document 01, "The step" and "Refusal numbers" (Order: schedules). Definitions only.
+-- What the step and the run answer and leave, the manual, "The step" and "Refusal numbers" (Order: schedules). Definitions only.
 --     longest           the most steps that a run may have [A6]
 --     left              what a call leaves in the lent schedule: its work, or, refused, what was there
 --     runRows           the refusals of a run, in their order: those of the schedule, then 13 [R6]

@@ -1,4 +1,4 @@
--- Walks along the circle, document 01, "The step". Definitions only.
+-- Walks along the circle, the manual, "The step". Definitions only.
 --     steps k b       b after k steps
 --     changed a b     at how many places a and b differ [S4]
 --     worked k b      the changed beats of k steps from b, added up

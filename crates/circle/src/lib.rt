@@ -1,4 +1,4 @@
-// The step and the run along the circle: document 01, "The step". Both work in the lent schedule, and what
+// The step and the run along the circle: the manual, "The step". Both work in the lent schedule, and what
 // each would change comes from a call that writes nothing. The contracts of the public functions cite
 // specs/Answers, which says what they answer and leave by specs/Step and specs/Walk; those of the private
 // ones cite specs/Plan, and that of may_run specs/Answers.

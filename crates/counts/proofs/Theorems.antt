@@ -1,4 +1,4 @@
--- What a count of forms answers, document 01, "How many forms" and "Refusal numbers". One of the three holds of every t and s [R3].
+-- What a count of forms answers, the manual, "How many forms" and "Refusal numbers". One of the three holds of every t and s [R3].
 --     beats-at-most-64    allowed counts have at most 64 beats [A5]
 --     count-forms         allowed counts: N(t, s)
 --     count-too-many      refusal 1 for t above the largest count [D1b]

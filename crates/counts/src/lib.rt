@@ -1,4 +1,4 @@
-// Which counts are allowed, and how many forms they have: document 01, "A schedule" (sizes) and
+// Which counts are allowed, and how many forms they have: the manual, "A schedule" (sizes) and
 // "How many forms". The contracts cite specs/Counts.
 ghost use mathlib.Core.Path.{_≡_};
 ghost use Rattle.refusal.specs.Order.{judge};

@@ -7,10 +7,11 @@
 --     call-refused      so what the letter wants refused is not accepted
 -- Assumes nothing.
 use mathlib.Core.Bool.{true≢false}
-use mathlib.Core.List.{List, [], _∷_, _++_}
+use mathlib.Core.List.{List, [], _∷_, _++_, List·Memᴰ·head}
 use mathlib.Core.Path.{_≡_, refl, _∙_, sym, subst}
 use Prim.Native.Nat.{ℕ, _+_, _≤_}
 use native.Mathlib.Omega.{arith}
+use borrow.Author.Tests.{ltb-false}
 use lib.Dec.{ltb}
 use lib.ListN.{length}
 use Rattle.refusal.specs.declared.Refusal.the-variants.{UnknownKind, NoRoom, RunTooLong}
@@ -18,7 +19,7 @@ use Rattle.refusal.specs.declared.Verdict.{Verdict}
 use Rattle.refusal.specs.Answer.{answer, verdict}
 use Rattle.refusal.specs.Order.{_⇒_, judge}
 use Rattle.refusal.proofs.Order.{judge-front, judge-back}
-use Rattle.refusal.proofs.Theorems.{verdict-answer}
+use Rattle.refusal.proofs.Theorems.{verdict-answer, accepted-none}
 use Rattle.triangle.specs.Count.{largest}
 use Rattle.counts.specs.Counts.{Allowed}
 use Rattle.counts.proofs.Sizes.{counts-allowed}
@@ -32,15 +33,16 @@ use Rattle.tree.specs.Table.{Treed, filled, kept}
 use Rattle.tree.proofs.Sizes.{sizes-right}
 use Rattle.tree.proofs.Theorems.{tree-accepts}
 use Rattle.tree_back.specs.Back.{Untreed, found, none, unfit}
-use Rattle.record.specs.Record.{Kind, isUnknown, kindOf, roomRow, writeRows, kindRows}
+use Rattle.record.specs.Record.{Kind, isUnknown, kindOf, recordOf, roomRow, writeRows, kindRows}
 use Rattle.reading.proofs.Verdicts.{told-verdict}
 use Rattle.reading.proofs.Parts.{read-facts}
-use Rattle.reading.proofs.Meaning.{numbered-facts, read-means}
+use Rattle.reading.proofs.Meaning.{numbered-facts, beaten-facts, read-means}
 use Rattle.demands.specs.Calls.{Call, Gives}
 use Rattle.demands.specs.Calls.{CountsOf, of-count, of-check, of-next, of-changed, of-run, of-run-changed, of-number, of-form, of-form-on-sheet, of-tree, of-schedule-of-tree, of-read, of-write}
 use Rattle.demands.specs.Calls.{BeatsOf, in-check, in-next, in-changed, in-run, in-run-changed, in-number, in-tree, in-write}
 use Rattle.demands.specs.Calls.{Owed, beats, formed, left, right, parent, from-left, from-right, from-parent, schedule}
-use Rattle.demands.specs.Demands.{Wrong, counts-above, more-down, bad-beat, wrong-length, no-form, no-form-on-sheet, no-form-in-record, cut-record}
+use Rattle.demands.specs.Demands.{Wrong, counts-above, more-down, bad-beat, wrong-length, no-form, no-form-on-sheet, no-form-in-record}
+use Rattle.demands.specs.Demands.{sheet-short, places-few, room-short, size-tiny, size-numbered, size-beaten, cut-record}
 
 pub taken : (v : Verdict) (n : ℕ) → Verdict.Accepted ≡ verdict (answer v n) → v ≡ Verdict.Accepted
 taken v n e = sym (e ∙ verdict-answer v n)
@@ -126,4 +128,21 @@ call-refused c m x (no-form-on-sheet {t} {s} {n} {sheet} {column} h) g = omega (
 call-refused c m x (no-form-in-record {src} {out} k h) g =
     let rows = read-facts (length out) src (sym (g .0 .0 ∙ told-verdict _ _ _ _ _)) .4 in
     omega (arith, numbered-facts src (subst (λ (kind : Kind). judge (kindRows kind src) ≡ Verdict.Accepted) k rows) .2)
+call-refused c m x (sheet-short {t} {s} {n} {sheet} {column} h) g =
+    let row = ltb (length sheet) (column + t + s) ⇒ NoRoom in
+    let fits = accepted-none (row ∷ []) (judge-back (numberRows t s n) (row ∷ []) (sym (g .0 .0))) row (List·Memᴰ·head refl) in
+    omega (arith, ltb-false (length sheet) (column + t + s) fits)
+call-refused c m x (places-few {src} {out} h) g = omega (arith, read-facts (length out) src (sym (g .0 .0 ∙ told-verdict _ _ _ _ _)) .0)
+call-refused c m x (room-short {kind} {t} {s} {b} {out} h) g =
+    let row = roomRow kind t s b out in
+    let known = (isUnknown (kindOf kind) ⇒ UnknownKind) ∷ [] in
+    let last = judge-back (checkRows t s b) (row ∷ []) (judge-back known (checkRows t s b ++ row ∷ []) (taken _ _ (g .0 .0))) in
+    omega (arith, ltb-false (length out) (length (recordOf kind t s b)) (accepted-none (row ∷ []) last row (List·Memᴰ·head refl)))
+call-refused c m x (size-tiny {src} {out} h) g = omega (arith, read-facts (length out) src (sym (g .0 .0 ∙ told-verdict _ _ _ _ _)) .2)
+call-refused c m x (size-numbered {src} {out} k d) g =
+    let rows = read-facts (length out) src (sym (g .0 .0 ∙ told-verdict _ _ _ _ _)) .4 in
+    d (numbered-facts src (subst (λ (kind : Kind). judge (kindRows kind src) ≡ Verdict.Accepted) k rows) .0)
+call-refused c m x (size-beaten {src} {out} k d) g =
+    let rows = read-facts (length out) src (sym (g .0 .0 ∙ told-verdict _ _ _ _ _)) .4 in
+    d (beaten-facts src (subst (λ (kind : Kind). judge (kindRows kind src) ≡ Verdict.Accepted) k rows) .exact)
 call-refused c m x (cut-record {src} {out} h) g = true≢false (sym h ∙ read-facts (length out) src (sym (g .0 .0 ∙ told-verdict _ _ _ _ _)) .1)

@@ -6,7 +6,7 @@ use mathlib.Core.Logic.{⊎-elim}
 use mathlib.Core.Path.{_≡_, refl, ap}
 use Prim.Native.Nat.{ℕ}
 use native.Mathlib.Omega.{arith}
-use lib.ListN.{getD}
+use lib.ListN.{getD, replicate}
 use Rattle.bounded.specs.Bounded.{every, firstFrom}
 use Rattle.triangle.specs.Count.{N}
 use Rattle.schedule.specs.Schedule.{ones, zeros, isSchedule}
@@ -17,8 +17,9 @@ use Rattle.refusal.specs.declared.Answer.{Answer}
 use Rattle.refusal.specs.declared.Verdict.{Verdict}
 use Rattle.circle.specs.Step.{top}
 use Rattle.circle.proofs.Circle.{top-schedule}
-use Rattle.demands.specs.Calls.{count, check, read, lent, Says, Gives, silenced, CountsOf, of-count, of-check, of-next, of-run, BeatsOf, in-check, Owed, beats}
-use Rattle.demands.specs.Demands.{Wrong, counts-above, Demand2, Demand3, Demand3All}
+use Rattle.record.specs.Bytes.{lowFirst, valueOf}
+use Rattle.demands.specs.Calls.{count, check, form-on-sheet, read, write, lent, Says, Gives, silenced, CountsOf, of-count, of-check, of-next, of-run, BeatsOf, in-check, Owed, beats}
+use Rattle.demands.specs.Demands.{Wrong, counts-above, sheet-short, places-few, room-short, size-numbered, Demand2, Demand3, Demand3All}
 use Rattle.demands.proofs.Accepted.{accepted-counts, accepted-beats, accepted-owed, call-refused}
 use Rattle.demands.proofs.Demands.{demands}
 use Rattle.demands.specs.Examples.{InOrder, Changing, Numbering, Holds, counts, follows, changes, rounds, numbers, links}
@@ -127,6 +128,22 @@ owed-2 p = omega (arith, accepted-owed [] ((1 ∷ []) ∷ []) p checks-1)
 -- a count of (33,0) is wrong, and one of (2,1) is not
 wrong-33 : Wrong (count 33 0)
 wrong-33 = counts-above {t = 33} {s = 0} of-count (omega arith)
+
+-- lengths that are wrong: a sheet of four bytes for five beats, 63 places to read into, 13 bytes for a record of 14, and a record with L = 13
+-- that is of kind 1
+wrong-sheet : Wrong (form-on-sheet 3 2 0 (0 ∷ 0 ∷ 0 ∷ 0 ∷ []) 0)
+wrong-sheet = sheet-short {t = 3} {s = 2} {sheet = 0 ∷ 0 ∷ 0 ∷ 0 ∷ []} {column = 0} (omega arith)
+
+wrong-places : Wrong (read [] (replicate 63 0))
+wrong-places = places-few {out = replicate 63 0} (omega arith)
+
+wrong-room : Wrong (write 1 1 0 (1 ∷ []) (replicate 13 0))
+unfolding lowFirst
+wrong-room = room-short {kind = 1} {t = 1} {s = 0} {b = 1 ∷ []} {out = replicate 13 0} (omega arith)
+
+wrong-size : Wrong (read (13 ∷ 0 ∷ 1 ∷ 0 ∷ []) [])
+unfolding valueOf
+wrong-size = size-numbered {src = 13 ∷ 0 ∷ 1 ∷ 0 ∷ []} refl (λ e. omega (arith, e))
 
 wrong-2-1 : Wrong (count 2 1) → ⊥
 wrong-2-1 p = call-refused (count 2 1) (2 ∷ []) [] p gives-2

@@ -1,7 +1,9 @@
--- The three demands of the letter, in its words, about the definitions and about what the functions answer and leave (Calls.antt).
+-- The three demands of the letter, about the definitions and about what the functions answer and leave (Calls.antt).
 -- proofs/Demands.antt proves each. That every call ends and takes every input is what the contracts say by having no `requires`.
 -- Definitions only.
---     Wrong                what the letter wants refused: counts above 32, bad beats, wrong lengths, numbers beyond the last form, cut records
+--     Wrong                what the letter wants refused: counts above 32, bad beats, wrong lengths, numbers beyond the last form, cut records.
+--                          A wrong length is each of these: a lent list of another length than the counts ask for, a sheet that is too short,
+--                          fewer places than reading needs, too little room to write into, and an L that is wrong for its record
 --     Demand1              a call does its work or refuses by number: there is an answer, and no second one; a refusal changes nothing
 --     Demand2 t s          the next form, the number and the form of allowed counts
 --     Demand3 t s          the circle of t, s, and its work
@@ -24,9 +26,9 @@ use Rattle.circle.specs.Walk.{steps, worked, OneWay}
 use Rattle.circle.specs.Walk as walk
 use Rattle.circle.specs.Answers.{longest}
 use Rattle.number.specs.Number.{Fewest}
-use Rattle.record.specs.Bytes.{valueOf}
-use Rattle.record.specs.Record.{numbered, kindIn, ups, downs, body, cut}
-use Rattle.demands.specs.Calls.{Call, count, next, run, number, form, form-on-sheet, read, lent, Gives, silenced, CountsOf, BeatsOf, Owed}
+use Rattle.record.specs.Bytes.{valueOf, bytesFor}
+use Rattle.record.specs.Record.{numbered, beaten, recordOf, long, kindIn, ups, downs, body, cut}
+use Rattle.demands.specs.Calls.{Call, count, next, run, number, form, form-on-sheet, read, write, lent, Gives, silenced, CountsOf, BeatsOf, Owed}
 
 pub data Wrong : Call → Type 0 where
   counts-above : {c : Call} {t s : ℕ} → CountsOf c t s → largest < t → Wrong c
@@ -36,10 +38,16 @@ pub data Wrong : Call → Type 0 where
   no-form : {t s n : ℕ} {out : List ℕ} → N t s ≤ n → Wrong (form t s n out)
   no-form-on-sheet : {t s n : ℕ} {sheet : List ℕ} {column : ℕ} → N t s ≤ n → Wrong (form-on-sheet t s n sheet column)
   no-form-in-record : {src out : List ℕ} → kindIn src ≡ numbered → N (ups src) (downs src) ≤ valueOf (body src) → Wrong (read src out)
+  sheet-short : {t s n : ℕ} {sheet : List ℕ} {column : ℕ} → length sheet < column + t + s → Wrong (form-on-sheet t s n sheet column)
+  places-few : {src out : List ℕ} → length out < largest + largest → Wrong (read src out)
+  room-short : {kind t s : ℕ} {b out : List ℕ} → length out < length (recordOf kind t s b) → Wrong (write kind t s b out)
+  size-tiny : {src out : List ℕ} → long src < 2 → Wrong (read src out)
+  size-numbered : {src out : List ℕ} → kindIn src ≡ numbered → long src ≢ 12 → Wrong (read src out)
+  size-beaten : {src out : List ℕ} → kindIn src ≡ beaten → long src ≢ 4 + bytesFor (ups src + downs src) → Wrong (read src out)
   cut-record : {src out : List ℕ} → cut src ≡ true → Wrong (read src out)
 
--- "Every entry point takes every input, ends, and either does its work or refuses by number. [...] are refused; a refusal changes nothing
--- in any buffer lent to it."
+-- demand 1: a call takes whatever it is given, and has one answer; what is wrong is refused by a number, and a refused call leaves all that was
+-- lent to it as it was
 pub record Demand1 : Type 0 where
   pub by-number : (why : Refusal) → (1 ≤ numberOf why) × (numberOf why ≤ 13)
   pub refused : (c : Call) (m : List ℕ) (x : List (List ℕ)) → Wrong c → Gives c Verdict.Accepted m x → ⊥
@@ -48,9 +56,8 @@ pub record Demand1 : Type 0 where
   pub answered : (c : Call) → ((v : Verdict) (m : List ℕ) (x : List (List ℕ)) → Gives c v m x → ⊥) → ⊥
   pub one-answer : (c : Call) (v w : Verdict) (m k : List ℕ) (x y : List (List ℕ)) → Gives c v m x → Gives c w k y → (v ≡ w) × (m ≡ k) × (x ≡ y)
 
--- "The next form is the one the CoolCat rule of Ruskey and Williams gives. A form's number is the fewest steps of that rule that lead to it
--- from the form that takes everything up first. Number to form and form to number undo each other for every allowed pair of counts." And
--- what all this is for: walking to a form and asking for it by number give the same schedule.
+-- demand 2: the step is CoolCat's; a number is the fewest steps from the form that takes all tasks up first; number and form undo each other, for
+-- all counts that are allowed. And what all this is for: walking to a form and asking for it by number give the same schedule
 pub record Demand2 (t s : ℕ) : Type 0 where
   pub next-form : (b : List ℕ) → Schedule t s b → Gives (next t s b) Verdict.Accepted (walk.changed b (rule.next b) ∷ []) (rule.next b ∷ [])
   pub number-given : (b : List ℕ) → Schedule t s b → (n : ℕ) × Gives (number t s b) Verdict.Accepted (n ∷ []) (b ∷ [])
@@ -62,16 +69,15 @@ pub record Demand2 (t s : ℕ) : Type 0 where
   pub walking-asking : (n k : ℕ) (out a b : List ℕ) (m : List ℕ) → Gives (form t s n out) Verdict.Accepted [] (a ∷ [])
       → Gives (run t s a k) Verdict.Accepted m (b ∷ []) → Gives (form t s ((n + k) % N t s) out) Verdict.Accepted [] (b ∷ [])
 
--- "Let N(t, s) be how many forms have t taken up and s set down. [...] N(t, s) steps from any form arrive at every form exactly once, at the
--- start last; each step changes two or four beats, and the round exactly 2·N(t, s) + 2·N(t−1, s−1) − 2. A run of any allowed length leaves the
--- form that many steps on, and reports exactly the beats changed at each of its steps, added up."
+-- demand 3: as many steps as there are forms meet each form once and come back last to where they began; a step changes two or four beats, and the
+-- whole round 2·N(t, s) + 2·N(t−1, s−1) − 2
 pub record Demand3 (t s : ℕ) : Type 0 where
   pub every-form-once : (a b : List ℕ) → Schedule t s a → Schedule t s b → OneWay t s a b
   pub start-last : (a : List ℕ) (p : Schedule t s a) → every-form-once a a p p .count ≡ N t s
   pub step-changes : (b : List ℕ) → Schedule t s b → (walk.changed b (rule.next b) ≡ 2) ⊎ (walk.changed b (rule.next b) ≡ 4)
   pub round-changes : (b : List ℕ) → Schedule t s b → worked (N t s) b ≡ 2 * N t s + 2 * N (t - 1) (s - 1) - 2
 
--- its first and its last sentence, which leave no counts out
+-- and, of all allowed counts: how many forms there are; that a run leaves the form so many steps on and answers the beats that its steps change
 pub record Demand3All (t s : ℕ) : Type 0 where
   pub how-many : (l : List (List ℕ)) → Lists (Schedule t s) l → length l ≡ N t s
   pub counted : Gives (count t s) Verdict.Accepted (N t s ∷ []) []

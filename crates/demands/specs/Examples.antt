@@ -1,4 +1,4 @@
--- The examples of document 01, "Examples on both sides", that are marked P, in one list. proofs/Examples.antt shows that each holds.
+-- The examples of the manual, "Examples on both sides", that are marked P, in one list. proofs/Examples.antt shows that each holds.
 -- A later example is one more line of the list; one of a new kind is also one more case of Example and of Holds. Definitions only.
 --     Example      `counts t s n`: there are n forms of t, s
 --                  `follows t s l`: from t ones then s zeros on, the forms stand in the order of l

@@ -1,4 +1,4 @@
-// The demands of the letter and the examples of document 01 that are marked P, as theorems about the definitions of
+// The demands of the letter and the examples of the manual that are marked P, as theorems about the definitions of
 // the crates above. The definitions are in specs/, the theorems in proofs/. The functions here only hand a call on: each
 // has the words of `Gives` for its contract, so that these are proved of the thirteen functions and not only read. [D1g]
 ghost use mathlib.Core.List.{[], _∷_};

@@ -1,4 +1,4 @@
-// The form of a number, alone or on a sheet: document 01, "The number" and "Onto the sheet". It is written
+// The form of a number, alone or on a sheet: the manual, "The number" and "Onto the sheet". It is written
 // from the number and the table of counts, and not by walking the circle [M8]. The contracts of the public
 // functions cite specs/Answers of the crate `number`.
 ghost use mathlib.Core.Bool.{cond};
@@ -15,6 +15,7 @@ ghost use Rattle.number.specs.Answers.{numberRows, formVerdict, formLeft, sheet
 ghost use Rattle.form.specs.Place.{placeOf, floorOf};
 use refusal::Refusal;
 use refusal::Verdict;
+use triangle::SIDE;
 
 // The place in list S of the form of a number, from 1 on: ones and then zeros close the list.
 fn listed(number: u64, all: u64) -> u64
@@ -24,14 +25,14 @@ fn listed(number: u64, all: u64) -> u64
 }
 
 // N(p, q−1), and 0 for q = 0: the forms of p, q before that place end in a 0.
-fn floor(counts: &[u64], p: u64, q: u64) -> u64
-    requires { ⌜ Counts (now counts) × (p ≤ largest) × (q ≤ p) ⌝ }
+fn floor(rows: &[[u64; SIDE]], p: u64, q: u64) -> u64
+    requires { ⌜ Counts (now rows) × (p ≤ largest) × (q ≤ p) ⌝ }
     ensures { λ r. ⌜ r ≡ floorOf p q ⌝ }
 {
     if q == 0 {
         0
     } else {
-        lookup::look(counts, p, q - 1)
+        lookup::look(rows, p, q - 1)
     }
 }
 
@@ -58,18 +59,18 @@ fn front(p: u64, until: usize, out: &mut [u8])
 // ones, stand at place k of all the places of their list S, and end in a 0 exactly if k is below low.
 // The next low is one of two counts that add up to low, and one of these is looked up before the beat is
 // known, so that no beat waits for a look-up.
-fn write(counts: &[u64], t: u64, s: u64, number: u64, out: &mut [u8])
-    requires { ⌜ Counts (now counts) × (t ≤ largest) × (s ≤ t) × (length (now out) ≡ t + s) × (number < N t s) ⌝ }
+fn write(rows: &[[u64; SIDE]], t: u64, s: u64, number: u64, out: &mut [u8])
+    requires { ⌜ Counts (now rows) × (t ≤ largest) × (s ≤ t) × (length (now out) ≡ t + s) × (number < N t s) ⌝ }
     ensures { λ r. ⌜ now (out .exit) ≡ formOf t s number ⌝ }
 {
     let mut at = out.len();
     let mut p = t;
-    let mut all = lookup::look(counts, t, s);
-    let mut low = floor(counts, t, s);
+    let mut all = lookup::look(rows, t, s);
+    let mut low = floor(rows, t, s);
     let mut k = listed(number, all);
     while k != all {
         at -= 1;
-        let next = lookup::look(counts, p - 1, at as u64 - p);
+        let next = lookup::look(rows, p - 1, at as u64 - p);
         let down = k < low;
         out[at] = !down as u8;
         k -= pick(down, 0, low - 1);
@@ -81,15 +82,15 @@ fn write(counts: &[u64], t: u64, s: u64, number: u64, out: &mut [u8])
 }
 
 // Whether the counts have a form of that number. Refuses 1, 2, then 7.
-fn numbered(counts: &[u64], t: u64, s: u64, number: u64) -> Verdict
-    requires { ⌜ Counts (now counts) ⌝ }
+fn numbered(rows: &[[u64; SIDE]], t: u64, s: u64, number: u64) -> Verdict
+    requires { ⌜ Counts (now rows) ⌝ }
     ensures { λ r. ⌜ r ≡ judge (numberRows t s number) ⌝ }
 {
     let verdict = counts::allowed(t, s);
     match verdict {
         Verdict::Refused(why) => Verdict::Refused(why),
         Verdict::Accepted => {
-            if number < lookup::look(counts, t, s) {
+            if number < lookup::look(rows, t, s) {
                 Verdict::Accepted
             } else {
                 Verdict::Refused(Refusal::NoSuchNumber)
@@ -104,24 +105,24 @@ pub fn form(t: u64, s: u64, number: u64, out: &mut [u8]) -> Verdict
     ensures { λ r. ⌜ r ≡ formVerdict t s number (now (out .entry)) ⌝ }
     ensures { λ _. ⌜ now (out .exit) ≡ formLeft t s number (now (out .entry)) ⌝ }
 {
-    let none = [0u64; 1];
-    form_by(&none[..0], t, s, number, out)
+    let none = lookup::NONE;
+    form_by(&none, t, s, number, out)
 }
 
-// The same, by a list of counts that the caller keeps from call to call.
-pub fn form_by(counts: &[u64], t: u64, s: u64, number: u64, out: &mut [u8]) -> Verdict
-    requires { ⌜ Counts (now counts) ⌝ }
+// The same, by rows of the table that the caller keeps from call to call.
+pub fn form_by(rows: &[[u64; SIDE]], t: u64, s: u64, number: u64, out: &mut [u8]) -> Verdict
+    requires { ⌜ Counts (now rows) ⌝ }
     ensures { λ r. ⌜ r ≡ formVerdict t s number (now (out .entry)) ⌝ }
     ensures { λ _. ⌜ now (out .exit) ≡ formLeft t s number (now (out .entry)) ⌝ }
 {
-    let verdict = numbered(counts, t, s, number);
+    let verdict = numbered(rows, t, s, number);
     match verdict {
         Verdict::Refused(why) => Verdict::Refused(why),
         Verdict::Accepted => {
             if out.len() as u64 != t + s {
                 return Verdict::Refused(Refusal::WrongLength);
             }
-            write(counts, t, s, number, out);
+            write(rows, t, s, number, out);
             Verdict::Accepted
         }
     }
@@ -133,8 +134,8 @@ pub fn form_on_sheet(t: u64, s: u64, number: u64, sheet: &mut [u8], column: u64)
     ensures { λ r. ⌜ r ≡ sheetVerdict t s number (now (sheet .entry)) column ⌝ }
     ensures { λ _. ⌜ now (sheet .exit) ≡ sheetLeft t s number (now (sheet .entry)) column ⌝ }
 {
-    let none = [0u64; 1];
-    let verdict = numbered(&none[..0], t, s, number);
+    let none = lookup::NONE;
+    let verdict = numbered(&none, t, s, number);
     match verdict {
         Verdict::Refused(why) => Verdict::Refused(why),
         Verdict::Accepted => {
@@ -148,7 +149,7 @@ pub fn form_on_sheet(t: u64, s: u64, number: u64, sheet: &mut [u8], column: u64)
             }
             let from = column as usize;
             let end = from + long as usize;
-            write(&none[..0], t, s, number, &mut sheet[from..end]);
+            write(&none, t, s, number, &mut sheet[from..end]);
             Verdict::Accepted
         }
     }

@@ -1,4 +1,4 @@
--- The definitions of specs/ on small inputs, by computing them: lines of document 01, "Examples on both sides", and that of
+-- The definitions of specs/ on small inputs, by computing them: lines of the manual, "The packing list", and that of
 -- the empty schedule; for each part of Spells and Written a text that is refused for it. Assumes nothing.
 use mathlib.Core.List.{List, [], _∷_}
 use mathlib.Core.Path.{_≡_, refl, ap}

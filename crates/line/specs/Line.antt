@@ -1,4 +1,4 @@
--- The text of a line of the packing list, document 01, "Examples on both sides": lists of ASCII codes. Definitions only.
+-- The text of a line of the packing list, the manual, "The packing list": lists of ASCII codes. Definitions only.
 --     digits k n       the digits of n in base ten, the most significant first, found by at most k divisions; none for 0
 --     decimal n        the digits of n, and the digit 0 for 0; n divisions are enough for any n
 --     Beats b          every beat is 0 or 1

@@ -1,4 +1,4 @@
-// The text of one line of the packing list: document 01, "Examples on both sides". A line is written where
+// The text of one line of the packing list: the manual, "The packing list". A line is written where
 // it is to stand, with no copy. The contracts cite specs/Line and specs/Written; proofs/Theorems
 // says what a decimal is.
 ghost use mathlib.Core.List.{[], _∷_, _++_};

@@ -1,4 +1,4 @@
--- The definitions of specs/ on small inputs: one inside, one outside. Assumes nothing.
+-- The definitions of specs/ on small inputs: what fits, and what is refused. Assumes nothing.
 use mathlib.Core.List.{[], _∷_}
 use mathlib.Core.Path.{refl}
 use Prim.Native.Nat.{zero, suc}
@@ -6,16 +6,17 @@ use native.Mathlib.Omega.{arith}
 use Rattle.triangle.specs.Count.{N, counted}
 use Rattle.lookup.specs.Lent.{Counts}
 
--- the first two counts of row 0 are right as far as they go, and so is an empty list; one that begins with 2 is not
-counts-two : Counts (1 ∷ 0 ∷ [])
+-- row 0, with 0 past s = t, is right as far as it goes; a row that begins with 2 is not, nor one that ends too early
+counts-one : Counts ((1 ∷ []) ∷ [])
 unfolding counted N
-counts-two zero h = refl
-counts-two (suc zero) h = refl
-counts-two (suc (suc i)) h = absurd (omega arith)
+counts-one zero zero h = refl
+counts-one zero (suc s) h = refl
+counts-one (suc t) s h = absurd (omega arith)
 
-counts-empty : Counts []
-counts-empty = λ i h. absurd (omega arith)
-
-counts-2 : Counts (2 ∷ []) → ⊥
+counts-2 : Counts ((2 ∷ []) ∷ []) → ⊥
 unfolding counted N
-counts-2 p = omega (arith, p 0 (omega arith))
+counts-2 p = omega (arith, p 0 0 (omega arith))
+
+counts-short : Counts ((1 ∷ []) ∷ (1 ∷ []) ∷ []) → ⊥
+unfolding counted N
+counts-short p = omega (arith, p 1 1 (omega arith))

@@ -1,3 +1,2 @@
-pub mod Filling
-pub mod Theorems
+pub mod Lent
 pub mod Cases

@@ -1,14 +1,10 @@
--- The list of counts that a program lends on. Definitions only.
---     side         the counts of a row, one for each s from 0 to the largest count
---     Counts l     l has the counts row after row, as far as it goes, and 0 behind the last row; the empty list is one, too
-use mathlib.Core.List.{List}
+-- The rows of the table of counts that a program lends on. Definitions only.
+--     Counts l     row t of l has N(t, s) for each s, 0 past s = t, as far as l goes; no rows at all are such a list, too
+use mathlib.Core.List.{List, []}
 use mathlib.Core.Path.{_≡_}
-use Prim.Native.Nat.{ℕ, _+_, _/_, _%_, _<_}
+use Prim.Native.Nat.{ℕ, _<_}
 use lib.ListN.{length, getD}
-use Rattle.triangle.specs.Count.{largest, counted}
+use Rattle.triangle.specs.Count.{counted}
 
-abbrev pub side : ℕ
-side = largest + 1
-
-abbrev pub Counts : List ℕ → Type 0
-Counts l = (i : ℕ) → i < length l → getD l i 0 ≡ counted (i / side) (i % side)
+abbrev pub Counts : List (List ℕ) → Type 0
+Counts l = (t s : ℕ) → t < length l → getD (getD l t []) s 0 ≡ counted t s

@@ -1,4 +1,4 @@
--- The number of a form: the letter, demand 2, and document 01, "The number". Each once over t and s.
+-- The number of a form: the letter, demand 2, and the manual, "The number". Each once over t and s.
 --     top-number          t ones then s zeros have the number 0 [M0]
 --     number-fewest       the number is the fewest steps from t ones then s zeros [M1]
 --     fewest-number       and the only number that is [M2]

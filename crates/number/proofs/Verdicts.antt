@@ -1,4 +1,4 @@
--- The verdicts of the functions that take a number, row by row, document 01, "Refusal numbers" (Order: numbers).
+-- The verdicts of the functions that take a number, row by row, the manual, "Refusal numbers" (Order: numbers).
 --     number-refused, number-beyond, number-taken     of the number itself: 1, 2, then 7
 --     number-allowed       what a taken number says of the counts
 --     form-refused, form-long, form-taken             of the bytes for a form: then 3

@@ -1,4 +1,4 @@
--- What number of a form, form of a number and the form on a sheet answer and leave, document 01, "The number", "Onto the sheet" and
+-- What number of a form, form of a number and the form on a sheet answer and leave, the manual, "The number", "Onto the sheet" and
 -- "Refusal numbers" (Order: schedules, numbers). Definitions only.
 --     numberAnswer     of a lent schedule: its number, or the check's refusal
 --     numberRows       the refusals of a number: 1, 2, then 7 [R14]

@@ -1,4 +1,4 @@
--- The list S by its groups, document 01, "The number"; source 000, section 3, (7a) and (7b) [M7]. Definitions only.
+-- The list S by its groups, the manual, "The number"; source 000, section 3, (7a) and (7b) [M7]. Definitions only.
 --     upTo f m       the lists f 1, f 2, .., f m, one after the other
 --     lastGroup      the groups go up to s, or up to s − 1 if t = s
 --     ending         a front, then a 1 and then s − i zeros

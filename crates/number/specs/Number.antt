@@ -1,4 +1,4 @@
--- The number of a form, document 01, "The number"; the letter, demand 2 [O2]. Definitions only.
+-- The number of a form, the manual, "The number"; the letter, demand 2 [O2]. Definitions only.
 --     Fewest t s b n     n is the fewest steps that lead from t ones then s zeros to b
 --     same               whether two lists of beats are equal, as a test
 --     numberOf t s b     the number: the first n below N(t, s) for which n steps from t ones then s zeros lead to b

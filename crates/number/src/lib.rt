@@ -1,4 +1,4 @@
-// The number of a form: document 01, "The number". It works from the beats and the table of counts, and not
+// The number of a form: the manual, "The number". It works from the beats and the table of counts, and not
 // by walking the circle [M8]. The contracts of the public functions cite specs/Answers, which has those of
 // the crate `form` too; proofs/Theorems says what a number is.
 ghost use mathlib.Core.Bool.{false};
@@ -10,6 +10,7 @@ ghost use Rattle.number.specs.Answers.{numberAnswer};
 ghost use Rattle.number.specs.Ranking.{isSized, goesOn, Ranks};
 use refusal::Answer;
 use refusal::Verdict;
+use triangle::SIDE;
 
 fn wide(beat: u8) -> u64
     ensures { λ r. ⌜ r ≡ beat ⌝ }
@@ -19,11 +20,11 @@ fn wide(beat: u8) -> u64
 
 // What a beat behind ups ones and downs zeros, not all ones before all zeros, adds to the number. No
 // branch goes by the beat, which could not be predicted.
-fn growth(counts: &[u64], ups: u64, downs: u64, beat: u64) -> u64
-    requires { ⌜ Counts (now counts) × (ups + beat ≤ largest) × (1 ≤ downs) × (downs ≤ ups) × (beat ≤ 1) ⌝ }
+fn growth(rows: &[[u64; SIDE]], ups: u64, downs: u64, beat: u64) -> u64
+    requires { ⌜ Counts (now rows) × (ups + beat ≤ largest) × (1 ≤ downs) × (downs ≤ ups) × (beat ≤ 1) ⌝ }
     ensures { λ r. ⌜ r ≡ beat * (N (ups + beat) (downs - 1) - 1) ⌝ }
 {
-    beat * (lookup::look(counts, ups + beat, downs - 1) - 1)
+    beat * (lookup::look(rows, ups + beat, downs - 1) - 1)
 }
 
 // Whether the counts are allowed and the beats are as many as they say.
@@ -71,8 +72,8 @@ fn unranked() -> Ranked
 
 // The number of a schedule: 0 for ones and then zeros; else that of the beats up to the 1 of the
 // leftmost 0 followed by 1, and what each beat behind it adds. The beats are tested as they are read.
-fn rank(counts: &[u64], t: u64, s: u64, beats: &[u8]) -> Ranked
-    requires { ⌜ Counts (now counts) ⌝ }
+fn rank(rows: &[[u64; SIDE]], t: u64, s: u64, beats: &[u8]) -> Ranked
+    requires { ⌜ Counts (now rows) ⌝ }
     ensures { λ r. ⌜ Ranks t s (now (beats .entry)) (r .whole) (r .number) ⌝ }
 {
     if !sized(t, s, beats) {
@@ -92,14 +93,14 @@ fn rank(counts: &[u64], t: u64, s: u64, beats: &[u8]) -> Ranked
         return unranked();
     }
     ups += 1;
-    let mut number = lookup::look(counts, ups, downs) - 1;
+    let mut number = lookup::look(rows, ups, downs) - 1;
     let mut at = rise + 1;
     while at < beats.len() {
         let beat = wide(beats[at]);
         if !fits(t, ups, downs, beat) {
             return unranked();
         }
-        number += growth(counts, ups, downs, beat);
+        number += growth(rows, ups, downs, beat);
         ups += beat;
         downs += 1 - beat;
         at += 1;
@@ -114,16 +115,16 @@ fn rank(counts: &[u64], t: u64, s: u64, beats: &[u8]) -> Ranked
 pub fn number(t: u64, s: u64, beats: &[u8]) -> Answer
     ensures { λ r. ⌜ r ≡ numberAnswer t s (now (beats .entry)) ⌝ }
 {
-    let none = [0u64; 1];
-    number_by(&none[..0], t, s, beats)
+    let none = lookup::NONE;
+    number_by(&none, t, s, beats)
 }
 
-// The same, by a list of counts that the caller keeps from call to call.
-pub fn number_by(counts: &[u64], t: u64, s: u64, beats: &[u8]) -> Answer
-    requires { ⌜ Counts (now counts) ⌝ }
+// The same, by rows of the table that the caller keeps from call to call.
+pub fn number_by(rows: &[[u64; SIDE]], t: u64, s: u64, beats: &[u8]) -> Answer
+    requires { ⌜ Counts (now rows) ⌝ }
     ensures { λ r. ⌜ r ≡ numberAnswer t s (now (beats .entry)) ⌝ }
 {
-    let ranked = rank(counts, t, s, beats);
+    let ranked = rank(rows, t, s, beats);
     if ranked.whole {
         return Answer::Value(ranked.number);
     }

@@ -1,4 +1,4 @@
--- The parts of what reading answers, document 01, "Order record". Definitions only.
+-- The parts of what reading answers, the manual, "Order record". Definitions only.
 --     verdict, t, s, number, consumed     after a refusal every number but the bytes consumed is 0 [R22]
 use Prim.Native.Nat.{ℕ}
 use Rattle.refusal.specs.declared.Verdict.{Verdict}

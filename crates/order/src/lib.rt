@@ -1,4 +1,4 @@
-// What reading a record answers: document 01, "Order record" and "Refusal numbers". The contracts cite
+// What reading a record answers: the manual, "Order record" and "Refusal numbers". The contracts cite
 // specs/Parts.
 ghost use mathlib.Core.Path.{_≡_};
 ghost use Rattle.order.specs.Parts as said;

@@ -1,4 +1,4 @@
--- The definitions of specs/ on small inputs, by computing them: the lines of document 01's four records [E4] and their neighbours, the whole
+-- The definitions of specs/ on small inputs, by computing them: the lines of the manual's four records [E4] and their neighbours, the whole
 -- list of the four, and what the program's buffers and turns may be. Assumes nothing.
 use mathlib.Core.Bool.{true}
 use mathlib.Core.List.{List, [], _∷_, _++_}
@@ -49,7 +49,7 @@ empty : lineOf (4 ∷ 0 ∷ 2 ∷ 0 ∷ 0 ∷ 0 ∷ []) ≡ 48 ∷ 32 ∷ 48 ∷
 unfolding valueOf tabulate N digits decimal beatText every firstFrom ones zeros isSchedule shift found has01 movesNext next steps changed
 empty = refl
 
--- document 01's four records, one after the other, and the four lines that it gives
+-- the manual's four records, one after the other, and the four lines that it gives
 abbrev orders : List ℕ
 orders =
     12 ∷ 0 ∷ 1 ∷ 0 ∷ 3 ∷ 2 ∷ 2 ∷ 0 ∷ 0 ∷ 0 ∷ 0 ∷ 0 ∷ 0 ∷ 0 ∷

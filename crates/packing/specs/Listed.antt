@@ -1,4 +1,4 @@
--- The packing list, document 01, "Examples on both sides". Definitions only. The verdict on a record, the bytes to pass
+-- The packing list, the manual, "The packing list". Definitions only. The verdict on a record, the bytes to pass
 -- over and where a list ends are in specs/Stream of the crate `stream`.
 --     text             the line after a verdict
 --     lineOf           the line of the record that a slice starts with: t, s, number and beats, or "refused", the

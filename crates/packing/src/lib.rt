@@ -1,4 +1,4 @@
-// The packing list: document 01, "Examples on both sides". A line for each order record of a stream. The line of
+// The packing list: the manual, "The packing list". A line for each order record of a stream. The line of
 // a record is in specs/Listed; how a stream is listed, and that what is printed is the list of the whole input
 // however it comes in pieces, is in the crate `stream`, whose specs/Pass and specs/Exchange the contracts cite too.
 ghost use mathlib.Core.Path.{_≡_};
@@ -14,6 +14,7 @@ use stream::Front;
 use stream::Pass;
 use stream::Printed;
 use stream::Stream;
+use triangle::SIDE;
 
 const BEATS: usize = 2 * triangle::LARGEST as usize;
 
@@ -22,11 +23,11 @@ const WIDEST: usize = 64 + BEATS;
 
 // Writes the line of the record that a slice starts with at the start of the lent bytes, leaving the others. The
 // room takes its beats.
-fn list(counts: &[u64], src: &[u8], room: &mut [u8], out: &mut [u8]) -> Printed
-    requires { ⌜ Counts (now counts) × (length (now room) ≡ largest + largest) × (widest ≤ length (now out)) ⌝ }
+fn list(rows: &[[u64; SIDE]], src: &[u8], room: &mut [u8], out: &mut [u8]) -> Printed
+    requires { ⌜ Counts (now rows) × (length (now room) ≡ largest + largest) × (widest ≤ length (now out)) ⌝ }
     ensures { λ r. ⌜ Prints lineOf (now (src .entry)) (now (out .entry)) r (now (out .exit)) ⌝ }
 {
-    let reading = reading::read_by(counts, src, room);
+    let reading = reading::read_by(rows, src, room);
     match reading {
         Reading::Order(order) => {
             let n = (order.t + order.s) as usize;
@@ -50,8 +51,14 @@ fn list(counts: &[u64], src: &[u8], room: &mut [u8], out: &mut [u8]) -> Printed
 }
 
 // Lists the records that a window starts with, one after the other, while their lines have room.
-fn list_window(counts: &[u64], src: &[u8], ended: bool, room: &mut [u8], text: &mut [u8]) -> Pass
-    requires { ⌜ Counts (now counts) × (length (now room) ≡ largest + largest) ⌝ }
+fn list_window(
+    rows: &[[u64; SIDE]],
+    src: &[u8],
+    ended: bool,
+    room: &mut [u8],
+    text: &mut [u8],
+) -> Pass
+    requires { ⌜ Counts (now rows) × (length (now room) ≡ largest + largest) ⌝ }
     ensures { λ r. ⌜ Passes lineOf widest ended (now (src .entry)) (now (text .entry)) r (now (text .exit)) ⌝ }
 {
     let mut at = 0;
@@ -72,7 +79,7 @@ fn list_window(counts: &[u64], src: &[u8], ended: bool, room: &mut [u8], text: &
                 front: Front::Record,
             };
         }
-        let printed = list(counts, &src[at..], room, &mut text[put..]);
+        let printed = list(rows, &src[at..], room, &mut text[put..]);
         if printed.last {
             return Pass {
                 consumed: at,
@@ -87,7 +94,7 @@ fn list_window(counts: &[u64], src: &[u8], ended: bool, room: &mut [u8], text: &
 
 // Lists the records of the window, writes their lines out, and reads on where one waits for more input.
 fn turn(
-    counts: &[u64],
+    rows: &[[u64; SIDE]],
     from: i32,
     to: i32,
     input: &mut [u8],
@@ -95,31 +102,31 @@ fn turn(
     text: &mut [u8],
     state: Stream,
 ) -> Stream
-    requires { ⌜ Counts (now counts) × Buffers (now input) (now room) × Inside (now input) state ⌝ }
+    requires { ⌜ Counts (now rows) × Buffers (now input) (now room) × Inside (now input) state ⌝ }
     ensures { λ r. ⌜ Turned (now (input .entry)) (now (text .entry)) state (now (input .exit)) r ⌝ }
 {
     let at = state.at;
     let have = state.have;
-    let pass = list_window(counts, &input[at..have], state.ended, room, text);
+    let pass = list_window(rows, &input[at..have], state.ended, room, text);
     stream::exchange(from, to, input, text, state, pass)
 }
 
 // Turn after turn, to the end of the list.
 fn run(
-    counts: &[u64],
+    rows: &[[u64; SIDE]],
     from: i32,
     to: i32,
     input: &mut [u8],
     room: &mut [u8],
     text: &mut [u8],
 ) -> u64
-    requires { ⌜ Counts (now counts) × Buffers (now input) (now room) ⌝ }
+    requires { ⌜ Counts (now rows) × Buffers (now input) (now room) ⌝ }
     ensures { λ r. ⌜ r ≤ 2 ⌝ }
 {
     let mut state = stream::start();
     let mut turns = u64::MAX;
     while 0 < turns {
-        state = turn(counts, from, to, input, room, text, state);
+        state = turn(rows, from, to, input, room, text, state);
         turns = stream::fewer(turns, state.going);
     }
     if state.going {
@@ -136,7 +143,6 @@ pub fn list_all(from: i32, to: i32) -> u64
     let mut input = io::large_buffer();
     let mut room = [0u8; BEATS];
     let mut text = io::large_buffer();
-    let mut counts = [0u64; lookup::PLACES];
-    lookup::fill(&mut counts);
-    run(&counts, from, to, &mut input, &mut room, &mut text)
+    let rows = triangle::rows();
+    run(&rows, from, to, &mut input, &mut room, &mut text)
 }

@@ -1,4 +1,4 @@
--- The definitions of specs/ on small inputs, by computing them: the second record of document 01, read and refused; for
+-- The definitions of specs/ on small inputs, by computing them: the second record of the manual, read and refused; for
 -- the predicate one that fits and one refused for each part. Assumes nothing.
 use mathlib.Core.Bool.{true≢false}
 use mathlib.Core.List.{[], _∷_}

@@ -1,4 +1,4 @@
--- What a record means, document 01, "Order record", for every kind and form. That an accepted record means a schedule of allowed counts and
+-- What a record means, the manual, "Order record", for every kind and form. That an accepted record means a schedule of allowed counts and
 -- its number is `read-means` in Meaning.antt.
 --     written-read         what was written is read back: t, s, the number, the schedule, and 2 + L bytes consumed [B3]
 --     read-written         what is read is written again byte for byte [B4]

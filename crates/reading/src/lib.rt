@@ -1,4 +1,4 @@
-// Order records, read: document 01, "Order record". The kinds are the cases of one match. The contracts cite
+// Order records, read: the manual, "Order record". The kinds are the cases of one match. The contracts cite
 // specs/Reading, which says what reading answers and leaves by the definitions of `record`; proofs/Theorems
 // says that what was written is read back, and that what is read is written again byte for byte.
 ghost use mathlib.Core.Path.{_≡_};
@@ -6,6 +6,7 @@ ghost use Rattle.lookup.specs.Lent.{Counts};
 ghost use Rattle.reading.specs.Reading.{readAnswer, readLeft};
 use order::Reading;
 use refusal::Refusal;
+use triangle::SIDE;
 
 mod reads;
 
@@ -18,13 +19,13 @@ pub fn read(src: &[u8], out: &mut [u8]) -> Reading
     ensures { λ r. ⌜ r ≡ readAnswer (now (src .entry)) (now (out .entry)) ⌝ }
     ensures { λ _. ⌜ now (out .exit) ≡ readLeft (now (src .entry)) (now (out .entry)) ⌝ }
 {
-    let none = [0u64; 1];
-    read_by(&none[..0], src, out)
+    let none = lookup::NONE;
+    read_by(&none, src, out)
 }
 
-// The same, by a list of counts that the caller keeps from call to call.
-pub fn read_by(counts: &[u64], src: &[u8], out: &mut [u8]) -> Reading
-    requires { ⌜ Counts (now counts) ⌝ }
+// The same, by rows of the table that the caller keeps from call to call.
+pub fn read_by(rows: &[[u64; SIDE]], src: &[u8], out: &mut [u8]) -> Reading
+    requires { ⌜ Counts (now rows) ⌝ }
     ensures { λ r. ⌜ r ≡ readAnswer (now (src .entry)) (now (out .entry)) ⌝ }
     ensures { λ _. ⌜ now (out .exit) ≡ readLeft (now (src .entry)) (now (out .entry)) ⌝ }
 {
@@ -40,8 +41,8 @@ pub fn read_by(counts: &[u64], src: &[u8], out: &mut [u8]) -> Reading
     }
     let kind = reads::kind(src);
     match kind {
-        1 => reads::numbered(counts, src, long, out),
-        2 => reads::beaten(counts, src, long, out),
+        1 => reads::numbered(rows, src, long, out),
+        2 => reads::beaten(rows, src, long, out),
         _ => Reading::Refused(Refusal::UnknownKind, 2 + long),
     }
 }

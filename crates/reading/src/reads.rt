@@ -23,6 +23,7 @@ use record::pack;
 use refusal::Answer;
 use refusal::Refusal;
 use refusal::Verdict;
+use triangle::SIDE;
 
 // The places that a slice for schedules must have.
 pub const ROOM: usize = 2 * triangle::LARGEST as usize;
@@ -67,8 +68,8 @@ fn wide(byte: u8) -> u64
 }
 
 // The form of a number, where its counts are allowed and have it.
-fn formed(counts: &[u64], t: u64, s: u64, number: u64, long: u64, out: &mut [u8]) -> Reading
-    requires { ⌜ Counts (now counts) × (long ≤ longest) × (largest + largest ≤ length (now out)) ⌝ }
+fn formed(rows: &[[u64; SIDE]], t: u64, s: u64, number: u64, long: u64, out: &mut [u8]) -> Reading
+    requires { ⌜ Counts (now rows) × (long ≤ longest) × (largest + largest ≤ length (now out)) ⌝ }
     ensures { λ r. ⌜ r ≡ told t s number long (judge (numberRows t s number)) ⌝ }
     ensures { λ _. ⌜ now (out .exit) ≡ left (judge (numberRows t s number)) (formOf t s number ++ drop (t + s) (now (out .entry))) (now (out .entry)) ⌝ }
 {
@@ -77,7 +78,7 @@ fn formed(counts: &[u64], t: u64, s: u64, number: u64, long: u64, out: &mut [u8]
         Verdict::Refused(why) => Reading::Refused(why, 2 + long),
         Verdict::Accepted => {
             let n = (t + s) as usize;
-            let verdict = form::form_by(counts, t, s, number, &mut out[..n]);
+            let verdict = form::form_by(rows, t, s, number, &mut out[..n]);
             match verdict {
                 Verdict::Refused(why) => Reading::Refused(why, 2 + long),
                 Verdict::Accepted => Reading::Order(Order {
@@ -92,8 +93,8 @@ fn formed(counts: &[u64], t: u64, s: u64, number: u64, long: u64, out: &mut [u8]
 }
 
 // A record of kind 1.
-pub fn numbered(counts: &[u64], src: &[u8], long: u64, out: &mut [u8]) -> Reading
-    requires { ⌜ Counts (now counts) × Whole (now src) long (now out) ⌝ }
+pub fn numbered(rows: &[[u64; SIDE]], src: &[u8], long: u64, out: &mut [u8]) -> Reading
+    requires { ⌜ Counts (now rows) × Whole (now src) long (now out) ⌝ }
     ensures { λ r. ⌜ r ≡ reading part.numbered (now (src .entry)) (judge (kindRows part.numbered (now (src .entry)))) ⌝ }
     ensures { λ _. ⌜ now (out .exit) ≡ leaving part.numbered (now (src .entry)) (judge (kindRows part.numbered (now (src .entry)))) (now (out .entry)) ⌝ }
 {
@@ -101,13 +102,13 @@ pub fn numbered(counts: &[u64], src: &[u8], long: u64, out: &mut [u8]) -> Readin
         return Reading::Refused(Refusal::WrongSize, 2 + long);
     }
     let number = little::value(&src[6..14]);
-    formed(counts, wide(src[4]), wide(src[5]), number, long, out)
+    formed(rows, wide(src[4]), wide(src[5]), number, long, out)
 }
 
 // The beats that are packed, where no unused bit is set and they are a schedule; the room takes them until
 // that is known.
 fn spread(
-    counts: &[u64],
+    rows: &[[u64; SIDE]],
     t: u64,
     s: u64,
     long: u64,
@@ -115,14 +116,14 @@ fn spread(
     room: &mut [u8],
     out: &mut [u8],
 ) -> Reading
-    requires { ⌜ Counts (now counts) × Allowed t s × (long ≡ 4 + bytesFor (t + s)) × (length (now packed) ≡ bytesFor (t + s)) × (length (now room) ≡ t + s) × (length (now out) ≡ t + s) ⌝ }
+    requires { ⌜ Counts (now rows) × Allowed t s × (long ≡ 4 + bytesFor (t + s)) × (length (now packed) ≡ bytesFor (t + s)) × (length (now room) ≡ t + s) × (length (now out) ≡ t + s) ⌝ }
     ensures { λ r. ⌜ r ≡ told t s (numberOf t s (unpacked (t + s) (now (packed .entry)))) long (judge (bodyRows part.beaten t s long (now (packed .entry)))) ⌝ }
     ensures { λ _. ⌜ now (out .exit) ≡ left (judge (bodyRows part.beaten t s long (now (packed .entry)))) (unpacked (t + s) (now (packed .entry))) (now (out .entry)) ⌝ }
 {
     if !pack::unpack(packed, room) {
         return Reading::Refused(Refusal::WrongSize, 2 + long);
     }
-    let numbered = number::number_by(counts, t, s, room);
+    let numbered = number::number_by(rows, t, s, room);
     match numbered {
         Answer::Refused(why) => Reading::Refused(why, 2 + long),
         Answer::Value(number) => {
@@ -138,8 +139,15 @@ fn spread(
 }
 
 // The packed beats of a form, where its counts are allowed and its L is what they need.
-fn unpacked(counts: &[u64], t: u64, s: u64, long: u64, packed: &[u8], out: &mut [u8]) -> Reading
-    requires { ⌜ Counts (now counts) × (long ≤ longest) × (length (now packed) + 4 ≡ long) × (largest + largest ≤ length (now out)) ⌝ }
+fn unpacked(
+    rows: &[[u64; SIDE]],
+    t: u64,
+    s: u64,
+    long: u64,
+    packed: &[u8],
+    out: &mut [u8],
+) -> Reading
+    requires { ⌜ Counts (now rows) × (long ≤ longest) × (length (now packed) + 4 ≡ long) × (largest + largest ≤ length (now out)) ⌝ }
     ensures { λ r. ⌜ r ≡ told t s (numberOf t s (beats.unpacked (t + s) (now (packed .entry)))) long (judge (countRows t s ++ bodyRows part.beaten t s long (now (packed .entry)))) ⌝ }
     ensures { λ _. ⌜ now (out .exit) ≡ left (judge (countRows t s ++ bodyRows part.beaten t s long (now (packed .entry)))) (beats.unpacked (t + s) (now (packed .entry)) ++ drop (t + s) (now (out .entry))) (now (out .entry)) ⌝ }
 {
@@ -152,14 +160,14 @@ fn unpacked(counts: &[u64], t: u64, s: u64, long: u64, packed: &[u8], out: &mut 
                 return Reading::Refused(Refusal::WrongSize, 2 + long);
             }
             let mut room = [0u8; ROOM];
-            spread(counts, t, s, long, packed, &mut room[..n], &mut out[..n])
+            spread(rows, t, s, long, packed, &mut room[..n], &mut out[..n])
         }
     }
 }
 
 // A record of kind 2.
-pub fn beaten(counts: &[u64], src: &[u8], long: u64, out: &mut [u8]) -> Reading
-    requires { ⌜ Counts (now counts) × Whole (now src) long (now out) ⌝ }
+pub fn beaten(rows: &[[u64; SIDE]], src: &[u8], long: u64, out: &mut [u8]) -> Reading
+    requires { ⌜ Counts (now rows) × Whole (now src) long (now out) ⌝ }
     ensures { λ r. ⌜ r ≡ reading part.beaten (now (src .entry)) (judge (kindRows part.beaten (now (src .entry)))) ⌝ }
     ensures { λ _. ⌜ now (out .exit) ≡ leaving part.beaten (now (src .entry)) (judge (kindRows part.beaten (now (src .entry)))) (now (out .entry)) ⌝ }
 {
@@ -167,5 +175,5 @@ pub fn beaten(counts: &[u64], src: &[u8], long: u64, out: &mut [u8]) -> Reading
         return Reading::Refused(Refusal::WrongSize, 2 + long);
     }
     let end = 2 + long as usize;
-    unpacked(counts, wide(src[4]), wide(src[5]), long, &src[6..end], out)
+    unpacked(rows, wide(src[4]), wide(src[5]), long, &src[6..end], out)
 }

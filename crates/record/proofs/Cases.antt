@@ -1,4 +1,4 @@
--- The definitions of specs/ on small inputs, by computing them: the records of document 01 and their neighbours; for
+-- The definitions of specs/ on small inputs, by computing them: the records of the manual and their neighbours; for
 -- each test one that fits and one refused for each part. Assumes nothing.
 use mathlib.Core.Bool.{true, false}
 use mathlib.Core.List.{[], _∷_}
@@ -130,7 +130,7 @@ record-2 : recordOf 2 1 1 (1 ∷ 0 ∷ []) ≡ 5 ∷ 0 ∷ 2 ∷ 0 ∷ 1 ∷ 1 �
 unfolding lowFirst tabulate spell
 record-2 = refl
 
--- the parts of the first two records of document 01
+-- the parts of the first two records of the manual
 long-12 : long (12 ∷ 0 ∷ 1 ∷ 0 ∷ 3 ∷ 2 ∷ 2 ∷ 0 ∷ 0 ∷ 0 ∷ 0 ∷ 0 ∷ 0 ∷ 0 ∷ []) ≡ 12
 unfolding valueOf
 long-12 = refl
@@ -228,7 +228,7 @@ meant-number-2 : meantNumber beaten 3 2 (168 ∷ []) ≡ 3
 unfolding tabulate N every firstFrom ones zeros isSchedule shift found has01 movesNext next steps changed
 meant-number-2 = refl
 
--- the second record of document 01, and the same cut by a byte, with L = 0, and of kind 3
+-- the second record of the manual, and the same cut by a byte, with L = 0, and of kind 3
 taken : judge (readRows 64 (5 ∷ 0 ∷ 2 ∷ 0 ∷ 3 ∷ 2 ∷ 168 ∷ [])) ≡ Verdict.Accepted
 unfolding valueOf tabulate firstFrom ones zeros
 taken = refl

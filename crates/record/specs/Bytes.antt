@@ -1,4 +1,4 @@
--- Numbers and beats as bytes, document 01, "Order record". Definitions only.
+-- Numbers and beats as bytes, the manual, "Order record". Definitions only.
 --     lowFirst k v     the first k bytes of v, the low one first
 --     valueOf l        the number whose bytes these are, the low one first
 --     spell k c        the number that the first k beats of c spell, each the next lower bit; 0 for a beat that is not there

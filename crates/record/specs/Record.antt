@@ -1,4 +1,4 @@
--- Order records, document 01, "Order record" and "Refusal numbers" (Order: reading, writing). Definitions only.
+-- Order records, the manual, "Order record" and "Refusal numbers" (Order: reading, writing). Definitions only.
 --     A record, written:
 --     payload          what a record of a kind has behind its counts: the number (kind 1), or the packed beats (kind 2)
 --     recordOf         the bytes of a record: its length, its kind, its counts, its payload [O5] [B2]

@@ -1,4 +1,4 @@
-// Order records, written: document 01, "Order record". The kinds are the cases of one match. The contracts cite
+// Order records, written: the manual, "Order record". The kinds are the cases of one match. The contracts cite
 // specs/Record, which says what a record means to its reader too; reading is the crate `reading`, and uses
 // little and pack.
 ghost use mathlib.Core.Path.{_≡_};

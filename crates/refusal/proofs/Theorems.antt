@@ -1,4 +1,4 @@
--- What the definitions of specs/ say, document 01, "Refusal numbers".
+-- What the definitions of specs/ say, the manual, "Refusal numbers".
 --     Given               a row of the order holds and names the refusal, and no row before it holds
 --     refused-given, given-refused     an order refuses so exactly if that is given [R11]
 --     accepted-none, none-accepted     it accepts exactly if no row holds

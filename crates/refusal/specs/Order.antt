@@ -1,4 +1,4 @@
--- The order of refusals, document 01, "Refusal numbers". Definitions only.
+-- The order of refusals, the manual, "Refusal numbers". Definitions only.
 --     holds ⇒ why     a row of an order: where the test holds, the call is refused so
 --     judge           the verdict of an order: the first row whose test holds refuses; where none does, the call is accepted
 --     test            the test of a row

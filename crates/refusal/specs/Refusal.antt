@@ -1,4 +1,4 @@
--- The table of refusals, document 01, "Refusal numbers" [R1] [F5]. Definitions only.
+-- The table of refusals, the manual, "Refusal numbers" [R1] [F5]. Definitions only.
 --     numberOf     the number of a refusal's row
 --     placeOf      the place that goes with it: the beat that the case names, and 0 where the table's place is 0
 use Prim.Native.Nat.{ℕ}

@@ -1,4 +1,4 @@
-// The refusals of document 01, "Refusal numbers", one named case for each row of its table, and two kinds
+// The refusals of the manual, "Refusal numbers", one named case for each row of its table, and two kinds
 // of answer that can be one; the third, of reading a record, is `Reading` of the crate `order`. Every function
 // of the library that can refuse answers one of the three, or to a C host its number, and passes a refusal
 // on as it got it. The contracts cite specs/Refusal and specs/Answer.

@@ -181,7 +181,7 @@ skips-to-end : skipped (1 ∷ 1 ∷ 0 ∷ []) 2 0 ≡ 3
 unfolding firstFrom
 skips-to-end = refl
 
--- document 01's examples of the check, and 4 before 5 before 6
+-- the manual's examples of the check, and 4 before 5 before 6
 checked-accepts : checked 3 2 (1 ∷ 1 ∷ 0 ∷ 1 ∷ 0 ∷ []) ≡ Verdict.Accepted
 unfolding ones zeros firstFrom
 checked-accepts = refl

@@ -1,4 +1,4 @@
--- What the check's answer means, and that N counts, document 01, "A schedule", "How many forms" and "Refusal numbers".
+-- What the check's answer means, and that N counts, the manual, "A schedule", "How many forms" and "Refusal numbers".
 --     accepted-schedule, schedule-accepted     accepted exactly if the beats are a schedule of allowed counts [R4]
 --     refused-refuses, refuses-refused         each refusal exactly when its row holds and none before it does; the place is the first such beat
 --     isSchedule-true, true-isSchedule         the test of specs/Schedule.antt holds exactly of the schedules [A8]

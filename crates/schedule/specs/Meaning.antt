@@ -1,4 +1,4 @@
--- When a lent schedule is accepted and when it is refused, in the words of document 01's table. proofs/Theorems.antt shows that the
+-- When a lent schedule is accepted and when it is refused, in the words of the manual's table. proofs/Theorems.antt shows that the
 -- verdict of Check.antt is the right one, and the only right one. Definitions only.
 --     First P n k     k is the first number below n of which P holds [A4] [R5]
 --     Nowhere P n     P holds of no number below n

@@ -1,4 +1,4 @@
-// The check of a schedule: document 01, "A schedule" and "Refusal numbers". It reads the lent beats
+// The check of a schedule: the manual, "A schedule" and "Refusal numbers". It reads the lent beats
 // and writes nothing. The contracts cite specs/Check, that of skip specs/Skip;
 // proofs/Theorems says what the verdicts mean.
 ghost use mathlib.Core.Path.{_≡_};

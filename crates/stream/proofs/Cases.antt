@@ -1,4 +1,4 @@
--- The definitions of specs/ on small inputs: what fits, and what is refused, a case for each part. The records are those of document 01 and
+-- The definitions of specs/ on small inputs: what fits, and what is refused, a case for each part. The records are those of the manual and
 -- their neighbours; 0 0 is the shortest record there is. `bell` prints one byte for every record. Assumes nothing.
 use mathlib.Core.Bool.{Bool, true, false, true≢false, false≢true}
 use mathlib.Core.List.{List, [], _∷_}
@@ -19,7 +19,7 @@ use Rattle.stream.specs.Pass.{Prints, Lines, rests, last, more, Passes, 
 use Rattle.stream.specs.Pass as listing
 use Rattle.stream.proofs.Theorems.{lines-one, listing-list}
 
--- the third record of document 01: number 5 of (3,2), refused 7; it is passed over, and the list goes on
+-- the third record of the manual: number 5 of (3,2), refused 7; it is passed over, and the list goes on
 abbrev third : List ℕ
 third = 12 ∷ 0 ∷ 1 ∷ 0 ∷ 3 ∷ 2 ∷ 5 ∷ 0 ∷ 0 ∷ 0 ∷ 0 ∷ 0 ∷ 0 ∷ 0 ∷ []
 

@@ -1,4 +1,4 @@
--- The list of a stream of order records, document 01, "Examples on both sides": what a program prints of an input, by
+-- The list of a stream of order records, the manual, "The packing list": what a program prints of an input, by
 -- the line that it prints of each record. Definitions only.
 --     verdictOn        the verdict on the record that a slice starts with, read with room for the longest schedule
 --     passing, passed  the bytes to pass over, after a verdict and of a record

@@ -1,4 +1,4 @@
-// The stream of order records that a program lists: document 01, "Examples on both sides". A program keeps the
+// The stream of order records that a program lists: the manual, "The packing list". A program keeps the
 // bytes that were read and not yet listed, its window, in one lent buffer, and the lines that it makes of them in
 // another. It lists what stands in the window (`at_front` says what that is) and hands both buffers to `exchange`,
 // which writes the lines and reads on. What a line says is the program's affair. What the whole list of an input

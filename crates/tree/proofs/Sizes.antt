@@ -1,4 +1,4 @@
--- The verdicts by size, and those of a schedule and the tables lent for it, row by row, document 01, "Refusal numbers" (Order: trees).
+-- The verdicts by size, and those of a schedule and the tables lent for it, row by row, the manual, "Refusal numbers" (Order: trees).
 --     fits-beats, fits-left, fits-right, fits-parent     whether the lengths are those of n nodes, tested in their order
 --     too-many, wrong-sizes, right-sizes     the verdict by size: 1, then 3
 --     sizes-right, fitting-sizes    what accepted sizes say, and that such sizes are accepted

@@ -1,4 +1,4 @@
--- What a tree table is, document 01, "Tree table", once over n.
+-- What a tree table is, the manual, "Tree table", once over n.
 --     closed-tree               every closed schedule has exactly one tree, of n nodes [T1]
 --     tree-closed               every tree of n nodes has exactly one closed schedule
 --     has-closed, closed-has    what has tables is a closed schedule, and every closed schedule has tables

@@ -1,4 +1,4 @@
--- The tree tables of a closed schedule, document 01, "Tree table" and "Refusal numbers" (rows 1 and 3; Order: trees). Definitions only.
+-- The tree tables of a closed schedule, the manual, "Tree table" and "Refusal numbers" (rows 1 and 3; Order: trees). Definitions only.
 --     Has          b is the word of a tree of n nodes with the final leaf left out, and l, r, p are the tree's tables, its nodes
 --                  numbered 1 to n; the root's parent is 0 [O4]
 --     fits         lengths of a schedule of 2n beats and of three tables of n

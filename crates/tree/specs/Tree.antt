@@ -1,4 +1,4 @@
--- Binary trees, document 01, "Tree table" (source 000, section 2; source 001, section 2.4.1). Definitions only.
+-- Binary trees, the manual, "Tree table" (source 000, section 2; source 001, section 2.4.1). Definitions only.
 --     Tree        a leaf, or an inner node with a tree on its left and one on its right
 --     size        its inner nodes
 --     word        its nodes in preorder, a node before its left tree and that before its right one: 1 for an inner node, 0 for a leaf

@@ -1,4 +1,4 @@
-// The tree table of a closed schedule: document 01, "Tree table". The way back is the crate `tree_back`. The
+// The tree table of a closed schedule: the manual, "Tree table". The way back is the crate `tree_back`. The
 // contracts of the public functions cite specs/Table; proofs/Theorems says that a schedule has one tree.
 ghost use mathlib.Core.Path.{_≡_};
 ghost use Prim.Native.Nat.{_+_, _≤_, _<_};

@@ -1,4 +1,4 @@
--- What the way back is, and that the two ways undo each other, document 01, "Tree table", once over n.
+-- What the way back is, and that the two ways undo each other, the manual, "Tree table", once over n.
 --     one-schedule              three tables have at most one schedule
 --     untreed-one               no second answer and no second content of what is lent fits the contract [P11]
 --     back-accepts              the way back accepts tables of the right sizes if some schedule has them, and writes that one

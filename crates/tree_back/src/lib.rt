@@ -1,4 +1,4 @@
-// The way back from the tree tables of a closed schedule: document 01, "Tree table". The contract of the public
+// The way back from the tree tables of a closed schedule: the manual, "Tree table". The contract of the public
 // function cites specs/Back; proofs/Theorems says that this way and that of the crate `tree` undo each other.
 ghost use mathlib.Core.Path.{_≡_};
 ghost use Prim.Native.Nat.{_+_, _≤_};

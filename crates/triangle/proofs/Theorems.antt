@@ -1,4 +1,4 @@
--- What document 01, "How many forms", says of the counts, each once over t and s [P10].
+-- What the manual, "How many forms", says of the counts, each once over t and s [P10].
 --     one-without-zeros  N(t, 0) = 1 [N2]
 --     closed-formula     N(t, s) = C(t+s, t) − C(t+s, t+1) for s from 1 to t [N3]
 --     addition-rule      N(t, s) = N(t−1, s) + N(t, s−1) for s from 1 to t [N4]

@@ -4,7 +4,7 @@ ghost use mathlib.Core.Path.{_≡_};
 ghost use Prim.Native.Nat.{_≤_};
 ghost use lib.ListN.{getD};
 ghost use Rattle.triangle.specs.Count.{largest};
-ghost use Rattle.triangle.specs.Table.{at, low, middle, high};
+ghost use Rattle.triangle.specs.Table.{table, at, low, middle, high};
 
 // The largest number of tasks that a schedule takes up.
 pub const LARGEST: u64 = 32;
@@ -1179,6 +1179,13 @@ fn listed(t: u64, s: u64) -> u64
         return 0;
     }
     FORMS[t as usize][s as usize]
+}
+
+// The whole table.
+pub fn rows() -> [[u64; 33]; 33]
+    ensures { λ r. ⌜ r ≡ table ⌝ }
+{
+    FORMS
 }
 
 // The entry at t, s, which stands at i among the counts with s up to t from row 0 on.

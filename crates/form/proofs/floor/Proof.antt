@@ -10,14 +10,14 @@ sub-look : tie.Need-sub-look
 sub-look c = search needs
 
 look-requires : tie.Need-look-requires
-look-requires c κs = let start = c .before .before in (start .pre .0, start .pre .1, omega (arith, start .pre .2))
+look-requires c κs = let start = c .before in (start .pre .0, start .pre .1, omega (arith, start .pre .2))
 
 returns : tie.Need-returns
-returns c = let args = c .before .before .args in floor-zero (args .p) (args .q) (c .if1 .taken)
+returns c = let args = c .before .args in floor-zero (args .p) (args .q) (c .if1 .taken)
 
 returns-2 : tie.Need-returns-2
 returns-2 c =
-    let args = c .before .before .before .args in
+    let args = c .before .before .args in
     c .look .ensures ∙ floor-more (args .p) (args .q) (c .before .if1 .left)
 
 pub floor-spec : {M : Type 1} → statement M

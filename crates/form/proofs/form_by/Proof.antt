@@ -26,7 +26,7 @@ enum-told c = search needs
 -- in the second arm the counts have a form of the number
 module _ (c : tie.After-enum-told) where
   abbrev start : tie.Start
-  start = c .before .before .before .before .before
+  start = c .before .before .before .before
 
   abbrev t : ℕ
   t = start .args .t
@@ -61,7 +61,7 @@ write-requires c κs = let told = c .before .before in (start told .pre, within 
 returns-2 : tie.Need-returns-2
 returns-2 c =
     let called = c .before .before .before in
-    let args = called .before .before .before .args in
+    let args = called .before .before .args in
     let told = sym (called .numbered .ensures) ∙ c .before .verdict .given .1 in
     let refused = form-refused (args .t) (args .s) (args .number) (args .out .now) told in
     refused-left refused (formOf (args .t) (args .s) (args .number)) (args .out .now)

@@ -17,9 +17,6 @@ use Rattle.number.proofs.Verdicts.{number-allowed, sheet-refused, sheet-short, 
 use Rattle.form.proofs.form_on_sheet.Statement.{statement}
 use Rattle.form.proofs.form_on_sheet.Tie as tie
 
-array-share-prefix-none : tie.Need-array-share-prefix-none
-array-share-prefix-none c = search needs
-
 slice-aggregate-numbered : tie.Need-slice-aggregate-numbered
 slice-aggregate-numbered c = search needs
 
@@ -81,9 +78,6 @@ returns-2 c =
 add-end : tie.Need-add-end
 add-end c = search needs
 
-array-share-prefix-none-2 : tie.Need-array-share-prefix-none-2
-array-share-prefix-none-2 c = search needs
-
 slice-aggregate-write : tie.Need-slice-aggregate-write
 slice-aggregate-write c = search needs
 
@@ -131,7 +125,6 @@ pub form-on-sheet-spec : {M : Type 1} → statement M
 form-on-sheet-spec =
     tie.close
     (tie.spec
-    array-share-prefix-none
     slice-aggregate-numbered
     numbered-requires
     enum-known-verdict
@@ -140,7 +133,6 @@ form-on-sheet-spec =
     returns
     returns-2
     add-end
-    array-share-prefix-none-2
     slice-aggregate-write
     sub-write
     part-write-start

@@ -22,13 +22,13 @@ enum-told c = search needs
 returns : tie.Need-returns
 returns c =
     let called = c .before .before .before in
-    let args = called .before .before .args in
+    let args = called .before .args in
     sym (number-refused (args .t) (args .s) (args .number) (sym (called .allowed .ensures) ∙ c .before .verdict .given .1))
 
 -- in the second arm the counts are allowed
 module _ (c : tie.After-enum-told) where
   abbrev start : tie.Start
-  start = c .before .before .before .before
+  start = c .before .before .before
 
   fine : judge (countRows (start .args .t) (start .args .s)) ≡ Verdict.Accepted
   fine = sym (c .before .before .allowed .ensures) ∙ c .enum-told .given .1

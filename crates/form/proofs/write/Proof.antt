@@ -20,10 +20,10 @@ abbrev μ-loop : tie.MeasureT-loop
 μ-loop counts t s number out₀ at₀ p₀ all₀ low₀ k₀ out at p all low k = at
 
 look-requires : tie.Need-look-requires Inv-loop μ-loop
-look-requires c κs = let start = c .before .before in (start .pre .0, start .pre .1, start .pre .2)
+look-requires c κs = let start = c .before in (start .pre .0, start .pre .1, start .pre .2)
 
 floor-requires : tie.Need-floor-requires Inv-loop μ-loop
-floor-requires c κs = let start = c .before .before .before in (start .pre .0, start .pre .1, start .pre .2)
+floor-requires c κs = let start = c .before .before in (start .pre .0, start .pre .1, start .pre .2)
 
 listed-requires : tie.Need-listed-requires Inv-loop μ-loop
 listed-requires c κs = search needs
@@ -31,14 +31,14 @@ listed-requires c κs = search needs
 loop-holds : tie.Need-loop-holds Inv-loop μ-loop
 loop-holds c =
     let looked = c .before .before in
-    let start = looked .before .before .before in
+    let start = looked .before .before in
     let args = start .args in
     let pre = start .pre in
     (refl, behind-none (args .out .now) (pre .1) (pre .2) (pre .3) (pre .4) (looked .look .ensures) (c .before .floor .ensures) (c .listed .ensures))
 
 -- where the loop's test is reached, back to the call
 abbrev entry : tie.At-loop Inv-loop μ-loop → tie.Start Inv-loop μ-loop
-entry c = c .before .before .before .before .before .before
+entry c = c .before .before .before .before .before
 
 -- at a turn there is a 0 left
 some : (c : tie.In-loop Inv-loop μ-loop) → 1 ≤ c .before .loop .inv .1 .down

@@ -16,14 +16,14 @@ rank-requires c κs = search needs
 
 -- what was ranked
 ranks : (c : tie.After-rank) (q : Bool) → c .rank .result .whole ≡ q
-    → let args = c .before .before .before .args in Ranks (args .t) (args .s) (args .beats .now) q (c .rank .result .number)
+    → let args = c .before .before .args in Ranks (args .t) (args .s) (args .beats .now) q (c .rank .result .number)
 ranks c q e =
-    let args = c .before .before .before .args in
+    let args = c .before .before .args in
     subst (λ (w : Bool). Ranks (args .t) (args .s) (args .beats .now) w (c .rank .result .number)) e (c .rank .ensures)
 
 returns : tie.Need-returns
 returns c =
-    let args = c .before .before .before .before .args in
+    let args = c .before .before .before .args in
     let right = ranks (c .before) true (c .if1 .taken) in
     ap Answer.Value (right .2)
     ∙ sym (ap (λ (v : Verdict). answer v (numberOf (args .t) (args .s) (args .beats .now))) (schedule-accepted (args .t) (args .s) (args .beats .now) (right .0) (right .1)))
@@ -40,14 +40,14 @@ enum-told c = search needs
 returns-2 : tie.Need-returns-2
 returns-2 c =
     let called = c .before .before .before in
-    let args = called .before .before .before .before .before .args in
+    let args = called .before .before .before .before .args in
     let n = numberOf (args .t) (args .s) (args .beats .now) in
     ap (λ (v : Verdict). answer v n) (sym (sym (called .check .ensures) ∙ c .before .verdict .given .1))
 
 returns-3 : tie.Need-returns-3
 returns-3 c =
     let called = c .before .before in
-    let args = called .before .before .before .before .before .args in
+    let args = called .before .before .before .before .args in
     let right = accepted-schedule (args .t) (args .s) (args .beats .now) (sym (called .check .ensures) ∙ c .enum-told .given .1) in
     absurd (ranks (called .before .before) false (called .before .if1 .left) (right .0) (right .1))
 

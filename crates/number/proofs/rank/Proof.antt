@@ -34,7 +34,7 @@ unranked-requires c κs = search needs
 returns : tie.Need-returns Inv-loop μ-loop
 returns c =
     let asked = c .before .before in
-    let args = asked .before .before .before .args in
+    let args = asked .before .before .args in
     let small = not-true (asked .sized .result) (c .before .if1 .taken) in
     no-rank (c .unranked .result .number) (c .unranked .ensures)
     (λ a p. true≢false (sym (parts-sized (args .t) (args .s) (args .beats .now) a (p .size)) ∙ sym (asked .sized .ensures) ∙ small))
@@ -48,7 +48,7 @@ skip-requires-2 c κs = search needs
 -- after the two scans
 module _ (c : tie.After-skip2 Inv-loop μ-loop) where
   abbrev start : tie.Start Inv-loop μ-loop
-  start = c .before .before .before .before .before .before
+  start = c .before .before .before .before .before
 
   abbrev up : ℕ
   up = c .before .skip .result

@@ -20,7 +20,7 @@ module _ (c : tie.After-struct-known) where
   called = c .before .before .before .before .before .before
 
   abbrev start : tie.Start
-  start = called .before .before .before .before .before .before
+  start = called .before .before .before .before .before
 
   abbrev src : List ℕ
   src = start .args .src .now
@@ -45,7 +45,7 @@ module _ (c : tie.After-struct-known) where
   few = (says .few .0, says .few .1, long)
 
 read-by-requires : tie.Need-read-by-requires
-read-by-requires c κs = c .before .before .before .before .before .pre .0
+read-by-requires c κs = c .before .before .before .before .pre .0
 
 enum-known-reading : tie.Need-enum-known-reading
 enum-known-reading c = search needs
@@ -106,7 +106,7 @@ returns-2 c =
     let numbering = placing .before in
     let known = numbering .before .before in
     let called = known .before .before .before .before in
-    let start = called .before .before .before .before .before .before in
+    let start = called .before .before .before .before .before in
     let down = turned-down (start .args .src .now) (start .args .room .now) (start .pre .1) _ _ (sym (called .read-by .ensures .0) ∙ known .reading2 .given .1) in
     list-refused (start .args .src .now) (start .args .out .now) _ (down .0) (down .1) (numbering .number .ensures) (placing .place .ensures) (writing .refused .ensures)
 

@@ -42,7 +42,7 @@ module _ (c : tie.After-list Inv-loop μ-loop) where
   turning = looked .before .before
 
   abbrev start : tie.Start Inv-loop μ-loop
-  start = turning .before .before .before .before .before
+  start = turning .before .before .before .before
 
   abbrev text : List ℕ
   text = start .args .text .now
@@ -119,7 +119,7 @@ same-length-2 c = search needs
 returns : tie.Need-returns Inv-loop μ-loop
 returns c =
     let turning = c .before .before .before in
-    let start = turning .before .before .before .before .before in
+    let start = turning .before .before .before .before in
     going-rests lineOf widest (start .args .ended) (start .args .src .now) (start .args .text .now) (turning .loop .inv .1) (sym (c .before .at-front .ensures))
     (λ e. absurd (no-record (c .before .at-front .result) (c .match .keys2) e))
 
@@ -136,7 +136,7 @@ returns-2 : tie.Need-returns-2 Inv-loop μ-loop
 returns-2 c =
     let looked = c .before .before .before in
     let turning = looked .before .before in
-    let start = turning .before .before .before .before .before in
+    let start = turning .before .before .before .before in
     going-rests lineOf widest (start .args .ended) (start .args .src .now) (start .args .text .now) (turning .loop .inv .1)
     (sym (looked .at-front .ensures) ∙ c .before .enum-told .given .1)
     (λ e. omega (arith, c .if1 .taken, turning .loop .inv .1 .long))
@@ -162,7 +162,7 @@ part-list-end-2 c = search needs
 list-requires : tie.Need-list-requires Inv-loop μ-loop
 list-requires c κs =
     let turning = c .before .before .before .before .before .before .before .before in
-    let start = turning .before .before .before .before .before in
+    let start = turning .before .before .before .before in
     let now = turning .loop .text in
     let put = turning .loop .put in
     let size = length-take-le (length now - put) (drop put now) (omega (arith, length-drop put now)) in

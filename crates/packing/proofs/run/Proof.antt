@@ -40,7 +40,7 @@ loop-holds c = rw (c .start .ensures) (record { input-kept = refl; room-kept = r
 turn-requires : tie.Need-turn-requires Inv-loop μ-loop
 turn-requires c κs =
     let turning = c .before .before .before .before in
-    let start = turning .before .before .before .before .before .before in
+    let start = turning .before .before .before .before .before in
     let stands = turning .loop .inv in (
       start .pre .0,
       record { any-record = omega (arith, start .pre .1 .any-record, stands .input-kept); any-beats = stands .room-kept ∙ start .pre .1 .any-beats },

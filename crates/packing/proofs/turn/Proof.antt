@@ -19,7 +19,7 @@ list-window-requires c κs = search needs
 exchange-requires : tie.Need-exchange-requires
 exchange-requires c κs =
     let called = c .before .before .before .before .before .before in
-    let start = called .before .before .before .before .before .before .before .before .before in
+    let start = called .before .before .before .before .before .before .before .before in
     ready (start .pre .2) (start .pre .1 .any-record) (called .list-window .ensures)
 
 same-length : tie.Need-same-length

@@ -21,7 +21,7 @@ use Rattle.reading.proofs.read_by.Tie as tie
 -- there is room
 module _ (c : tie.Else1) where
   abbrev start : tie.Start
-  start = c .before .before .before .before
+  start = c .before .before .before
 
   abbrev src : List ℕ
   src = start .args .src .now
@@ -72,7 +72,7 @@ module _ (c : tie.After-kind) where
 
 returns : tie.Need-returns
 returns c =
-    let args = c .before .before .before .before .args in
+    let args = c .before .before .before .args in
     let refused = read-room (length (args .out .now)) (args .src .now) (omega (arith, c .if1 .taken)) in
     (told-why refused _ _ _ _ 0 refl, left-refused refused _ (args .out .now))
 

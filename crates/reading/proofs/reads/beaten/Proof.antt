@@ -18,7 +18,7 @@ use Rattle.reading.proofs.reads.beaten.Tie as tie
 -- L, and the whole record
 module _ (c : tie.After-slice-known) where
   abbrev start : tie.Start
-  start = c .before .before .before
+  start = c .before .before
 
   abbrev src : List ℕ
   src = start .args .src .now

@@ -22,7 +22,7 @@ use Rattle.reading.proofs.reads.formed.Tie as tie
 -- in the second arm the counts are allowed
 module _ (c : tie.After-enum-told) where
   abbrev start : tie.Start
-  start = c .before .before .before .before .before
+  start = c .before .before .before .before
 
   abbrev t : ℕ
   t = start .args .t
@@ -86,7 +86,7 @@ add-t19 c = search needs
 returns : tie.Need-returns
 returns c =
     let called = c .before .before .before in
-    let args = called .before .before .before .args in
+    let args = called .before .before .args in
     let told = sym (called .allowed .ensures) ∙ c .before .allowed2 .given .1 in
     let refused = number-refused (args .t) (args .s) (args .number) told in
     (told-refused refused (late-counts (args .t) (args .s) told) (args .t) (args .s) (args .number) (args .long), left-refused refused _ (args .out .now))

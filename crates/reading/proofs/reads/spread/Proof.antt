@@ -26,7 +26,7 @@ use Rattle.reading.proofs.reads.spread.Tie as tie
 -- the beats are in the room
 module _ (c : tie.After-unpack) where
   abbrev start : tie.Start
-  start = c .before .before .before .before .before .before
+  start = c .before .before .before .before .before
 
   abbrev t : ℕ
   t = start .args .t

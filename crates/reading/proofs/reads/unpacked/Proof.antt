@@ -25,7 +25,7 @@ use Rattle.reading.proofs.reads.unpacked.Tie as tie
 -- in the second arm the counts are allowed
 module _ (c : tie.After-enum-told) where
   abbrev start : tie.Start
-  start = c .before .before .before .before .before .before
+  start = c .before .before .before .before .before
 
   abbrev t : ℕ
   t = start .args .t
@@ -107,7 +107,7 @@ spread-requires c κs =
 returns-2 : tie.Need-returns-2
 returns-2 c =
     let called = c .before .before .before in
-    let args = called .before .before .before .before .args in
+    let args = called .before .before .before .args in
     let why = sym (called .allowed .ensures) ∙ c .before .allowed2 .given .1 in
     let refused = judge-refused (countRows (args .t) (args .s)) (bodyRows beaten (args .t) (args .s) (args .long) (args .packed .now)) _ why in
     (told-refused refused (late-counts (args .t) (args .s) why) (args .t) (args .s) _ (args .long), left-refused refused _ (args .out .now))

@@ -1,0 +1,364 @@
+#!/usr/bin/env python3
+"""The test of the tests: breaks one thing at a time in a copy of the tree, and sees that the right check fails and names it.
+
+  verify_checks.py             every break
+  verify_checks.py --sources   what is held of the sources alone: no assert decides, and no variable of the environment is read
+
+Each check passes on the copy before something is broken; two that take long are only run broken, as the gate runs them whole. Every host
+test has a break, but for one that is another one's again. Prints a line for each break, and ends with status 1 at the first that is not
+seen, or that cannot be made: what it changes must be there as often as it says. The tree itself is only read.
+"""
+import ast
+import contextlib
+import os
+import pathlib
+import shutil
+import subprocess
+import sys
+import tempfile
+import time
+from typing import Callable, NamedTuple
+
+import verify_cases
+from verifying import ROOT, Wrong, contents, ended, language, parsed, sure, verdict
+
+LIMIT = 300  # seconds for a check
+BUILT = ("host/libghanveltri.*", "host/packing_list", "bin/packing_list", "must-fail/*/*/.log")  # of target
+RIGHT = ".right"  # behind the name of a program, as it was built
+
+# What is held of the sources.
+
+
+def named(node):
+    """The name that a part of a Python program ends with, or None."""
+    return getattr(node, "attr", getattr(node, "id", None))
+
+
+def reads_a_variable(node):
+    """Whether a part of a Python program reads a variable of the environment other than PATH."""
+    if isinstance(node, ast.Subscript):
+        return named(node.value) == "environ" and not (isinstance(node.slice, ast.Constant) and node.slice.value == "PATH")
+    return named(node) == "getenv" or (isinstance(node, ast.Attribute) and named(node.value) == "environ")
+
+
+def python_faults(path):
+    for node in ast.walk(parsed(path)):
+        if isinstance(node, ast.Assert):
+            yield f"{path}:{node.lineno}: an assert, which Python may pass over; sure of host/verifying.py says it"
+        elif path.startswith("host/") and reads_a_variable(node):
+            yield f"{path}:{node.lineno}: reads a variable of the environment"
+
+
+def shell_faults(path):
+    for number, line in enumerate(contents(path).splitlines(), 1):
+        if "$GV_" in line or "${GV_" in line:
+            yield f"{path}:{number}: reads a variable of the environment"
+
+
+def hold_sources():
+    files = [str(path.relative_to(ROOT)) for part in ("host", "crates") for path in sorted(ROOT.glob(f"{part}/**/*")) if path.is_file()]
+    held = [(path, {"py": python_faults, "sh": shell_faults}.get(language(path))) for path in files if "__pycache__" not in path]
+    held = [(path, faults) for path, faults in held if faults]
+    return verdict([fault for path, faults in held for fault in faults(path)], len(held), "scripts")
+
+
+# Changes. Each takes the path of a file in the copy.
+
+
+def written(change):
+    """A change of a file's text."""
+    return lambda path: path.write_text(change(path.read_text(encoding="utf-8")), encoding="utf-8")
+
+
+def swap(old, new):
+    """One text for another, which is there once."""
+
+    def change(text):
+        sure(text.count(old) == 1, f"{old!r} is there {text.count(old)} times")
+        return text.replace(old, new)
+
+    return written(change)
+
+
+def drop(start, times=1):
+    """Without the lines that begin so, or with one of these; there are so many."""
+
+    def change(text):
+        lines = text.splitlines(keepends=True)
+        kept = [line for line in lines if not line.startswith(start)]
+        sure(len(lines) - len(kept) == times, f"{len(lines) - len(kept)} lines begin with {start!r}, and not {times}")
+        return "".join(kept)
+
+    return written(change)
+
+
+def becomes(text):
+    return lambda path: path.write_text(text)
+
+
+def exchange(one, other):
+    """An archive in which two functions have each other's name."""
+
+    def change(path):
+        names = [f"--redefine-sym={one}={other}", f"--redefine-sym={other}={one}"]
+        before = path.read_bytes()
+        subprocess.run(["objcopy", *names, path], check=True)
+        sure(path.read_bytes() != before, f"there are no {one} and {other}")
+
+    return change
+
+
+def gone(path):
+    path.unlink()
+
+
+# The checks and their breaks.
+
+COMMANDS = {  # where it is not the host test as it stands
+    "the gate": ("gate/.ci/run",),
+    "checks_can_fail": ("host/tests/checks_can_fail", "--sources"),
+    "functions_agree": ("host/tests/functions_agree", "--brief"),
+    "packing_list_agrees": ("host/tests/packing_list_agrees", "sample"),
+    "stored_outputs_right": ("host/tests/stored_outputs_right", "counts", "lists", "order", "check"),
+}
+ENDS = {"the gate": "\n2 passed, 0 failed\n"}  # what it says at last where nothing is broken
+LONG = {"faults_are_told", "installed_example_runs"}
+THE_SAME = {"functions_agree_sanitized"}  # as functions_agree, built otherwise
+
+OUTSIDE = {name: "none" for name in ("GV_ARCHIVE", "GV_PACKING_LIST", "GV_SEED", "PYTHONPATH", "CPATH", "ASAN_OPTIONS")}
+OUTSIDE |= {"PYTHONOPTIMIZE": "1"}
+# The gate with a toolchain that proves nothing, and one test: no variable from outside has come to it.
+GATE = {
+    "gate/bin/rt": "#!/bin/sh\n[ \"$1\" != ci ] || echo '1 passed, 0 failed'\n",
+    "gate/host/build": "#!/bin/sh\n",
+    "gate/host/tests/one": f"#!/bin/sh\nenv | grep -E '^({'|'.join(OUTSIDE)})=' && exit 1\nexit 0\n",
+}
+
+LESS = f'#!/bin/sh\nPATH=/usr/bin:/bin\n"$0{RIGHT}" | sed 2d\n'  # a packing list that loses its second line
+SILENT = f'#!/bin/sh\nexec "$0{RIGHT}" "$@" 2>/dev/null\n'  # and one that tells no failure
+
+CLAIMS, VACUITY, SHAMS = "docs/CLAIMS.md", "docs/VACUITY.md", "docs/SHAMS.md"
+FIRST = "| claim | kind | where |\n|---|---|---|---|\n| D1a |"  # behind the first id of a header
+THEOREMS, CASES, BOUNDED = "crates/number/proofs/Theorems.antt", "crates/bounded/proofs/Cases.antt", "crates/bounded/specs/Bounded.antt"
+EDIT = "accepted_has_a_place"
+SHAM, LOG = f"crates/refusal/must-fail/{EDIT}.edit", f"target/must-fail/refusal/{EDIT}/.log"
+HEADER, PAGE, ARCHIVE = "include/ghanveltri.h", "host/man/ghanveltri.3", "target/host/libghanveltri.a"
+COMMAND, PROGRAM = "target/host/packing_list", "target/bin/packing_list"
+GROUND, WALK, ORACLE, PACKING = "crates/cases_ground/stdout", "crates/cases_walk/stdout", "host/oracle.py", "host/packing.py"
+COUNT, COUNTS = "crates/triangle/specs/Count.antt", "crates/triangle/src/table.rt"
+TABLE_1, FIGURE = "Table 1 of source 000", "Figure 2.3 of source 001"
+OPTIMIZED = {"PYTHONOPTIMIZE": "1"}
+
+
+class Break(NamedTuple):
+    """What is broken, where and how; what the check then says; and variables of the environment that it gets."""
+
+    what: str
+    path: str
+    change: Callable
+    says: tuple
+    variables: dict = {}
+
+
+def kinds_gone():
+    """All lines of one kind deleted, for each kind of each program."""
+    for program, stated in verify_cases.STATED.items():
+        through = {kind: len(inputs) for kind, inputs in verify_cases.THROUGH[program].items()}
+        for kind, lines in (stated | through).items():
+            yield Break(f"no lines {kind!r}", f"crates/{program}/stdout", drop(f"{kind} ", lines), (program, repr(kind)))
+
+
+BREAKS = {
+    "claims_name_what_exists": [
+        Break("a row deleted", CLAIMS, drop("| D2b |"), ("[D2b]", "has no row")),
+        Break("an open row deleted", CLAIMS, drop("| F6 |"), ("F6 has no row",)),
+        Break("an id in another case", CLAIMS, swap("| D2b |", "| d2b |"), ("d2b: no id",)),
+        Break("a row without its kind", CLAIMS, swap("has number n | theorem |", "has number n |"), ("4 columns", "D2b")),
+        Break("a kind that is none", CLAIMS, swap("has number n | theorem |", "has number n | theorm |"), ("D2b", "'theorm'")),
+        Break("another header", CLAIMS, swap(f"| id {FIRST}", f"| no {FIRST}"), ("no header",)),
+        Break("a name only in a comment", THEOREMS, swap("\n  pub form-number :", "\n  -- form-number :"), ("D2b", "no form-number")),
+        Break("a file gone", THEOREMS, gone, ("D2b", THEOREMS)),
+        Break("a tag gone", THEOREMS, swap(" [D2b]\n", "\n"), ("D2b: none of its files",)),
+        Break("a tag of no claim", THEOREMS, swap("[D2b]", "[D2b] [D9]"), ("[D9]", "has no row")),
+        Break("a tag in another case", THEOREMS, swap("[D2b]", "[D2b] [d2c]"), ("[d2c]", "[D2c]")),
+    ],
+    "definitions_have_examples": [
+        Break("a row deleted", VACUITY, drop(f"| `{BOUNDED}#first` |"), (f"{BOUNDED}#first has no row",)),
+        Break("a row without its outside", VACUITY, swap(f" `{CASES}#first-nowhere` |", ""), ("4 columns", f"{BOUNDED}#first")),
+        Break("an example on the wrong side", VACUITY, swap("#not-all-below", "#all-below"), ("every: all-below is no example",)),
+        Break("an example only in a comment", CASES, swap("\nfirst-nowhere :", "\n-- first-nowhere :"), ("first-nowhere",)),
+        Break("a new definition", BOUNDED, swap("abbrev pub first ", "abbrev pub third "), ("third has no row",)),
+        Break("a new one in two lines", BOUNDED, swap("\nabbrev", "\npub Odd :\n  ℕ → Type 0\n\nabbrev"), ("Odd has no row",)),
+    ],
+    "heads_name_what_is_there": [
+        Break("a name that is not there", BOUNDED, swap("--     every f n ", "--     evry f n "), (f"{BOUNDED} defines no evry",)),
+        Break("a name only in a comment", BOUNDED, swap("unfoldable pub every :", "-- every :"), (f"{BOUNDED} defines no every",)),
+        Break("one space behind a name", BOUNDED, swap("--     every f n     the", "--     evry the"), ("defines no evry",)),
+        Break("no name listed", BOUNDED, drop("--     ", 2), (f"{BOUNDED} lists no name",)),
+        Break("no head", BOUNDED, drop("--", 3), (f"{BOUNDED} has no head",)),
+    ],
+    "edits_are_listed": [
+        Break("no logs", "target/must-fail", gone, ("target/must-fail", "rt must-fail", "rt ci")),
+        Break("a log gone", LOG, gone, (EDIT, "no log")),
+        Break("an empty log", LOG, becomes(""), (EDIT, "nothing that can be read")),
+        Break("a row deleted", SHAMS, drop(f"| `{EDIT}` |"), (f"{EDIT} has no row",)),
+        Break("a row in another form", SHAMS, swap(f"| `{EDIT}` |", f"| {EDIT} |"), (SHAMS, "a row is `edit`")),
+        Break("a row without a column", SHAMS, swap(f"| `{EDIT}` | the definition place |", f"| `{EDIT}` |"), (EDIT, "4 columns")),
+        Break("a sham deleted", SHAMS, drop("| P6b "), (SHAMS, "P6b")),
+        Break("another fact in a row", SHAMS, swap("`accepted-place` |", "`accepted` |"), (EDIT, "`accepted-place`")),
+        Break("an edit of another wrong", SHAM, swap("has the place 1:", "has the place 2:"), (EDIT, "has the place 2:")),
+        Break("an edit gone", SHAM, gone, (f"{EDIT} is no edit",)),
+    ],
+    "stored_outputs_right": [
+        Break("no row of Table 1", GROUND, drop(tuple(f"counts of {t}:" for t in range(9)), 9), (TABLE_1, "'counts of 0'")),
+        Break("no count of lists", GROUND, drop("lists of ", 9), (TABLE_1, "'lists of 0'")),
+        Break("no Figure 2.3", WALK, drop("order 4 4:"), (FIGURE, "'order 4 4'")),
+        Break("a row of Table 1 gone from the oracle", ORACLE, drop("    [1, 5, 14, 28, 42, 42],"), (ORACLE, TABLE_1)),
+        Break("another number in Table 1", ORACLE, swap("[1, 5, 14, 28,", "[1, 5, 14, 29,"), (TABLE_1, "row 5"), OPTIMIZED),
+        Break("another word in Figure 2.3", ORACLE, swap('"11001100 ', '"11001010 '), (FIGURE,), OPTIMIZED),
+        Break("a wrong line", GROUND, swap("check 2 2 1001: refused 5 2", "check 2 2 1001: refused 5 1"), ("check 2 2 1001",), OPTIMIZED),
+        Break("a line of no kind", GROUND, swap("count 33 0:", "cuont 33 0:"), ("'cuont'",)),
+        Break("a stored output gone", WALK, gone, (WALK,)),
+        *kinds_gone(),
+    ],
+    "table_as_generated": [
+        Break("another number in the table", COUNTS, swap("LARGEST: u64 = 32;", "LARGEST: u64 = 31;"), ("src/table.rt is not",)),
+        Break("no largest count", COUNT, drop("largest = 32"), ("has not one line 'largest = NUMBER'",)),
+    ],
+    "header_agrees": [
+        Break("another constant", HEADER, swap("#define GV_RUN_TOO_LONG 13", "#define GV_RUN_TOO_LONG 14"), ("GV_RUN_TOO_LONG",)),
+        Break("a function gone", HEADER, drop("uint64_t gv_version(void);"), ("gv_version",)),
+        Break("the archive gone", ARCHIVE, gone, ("rt staticlib ghanveltri",)),
+    ],
+    "manual_agrees": [
+        Break("a function gone from the page", PAGE, drop('.BI "uint64_t gv_version('), ("gv_version",)),
+        Break("another number of a refusal", PAGE, swap('GV_RUN_TOO_LONG " (13)"', 'GV_RUN_TOO_LONG " (14)"'), ("GV_RUN_TOO_LONG",)),
+    ],
+    "shared_library_agrees": [
+        Break("a function more in the header", HEADER, swap("gv_version(void);", "gv_version(void);\nint gv_more(void);"), ("gv_more",)),
+    ],
+    "functions_agree": [
+        Break("two functions exchanged", ARCHIVE, exchange("gv_count_place", "gv_count_refusal"), ("gv_count_refusal",)),
+    ],
+    "functions_programs_agree": [
+        Break("two functions exchanged", ARCHIVE, exchange("gv_count_place", "gv_count_refusal"), ("count_refusal",)),
+    ],
+    "packing_list_agrees": [
+        Break("a line lost", COMMAND, becomes(LESS), ("sample", "line 2")),
+        Break("a line lost by the Rattle program", PROGRAM, becomes(LESS), ("sample", "line 2"), OPTIMIZED),
+        Break("a line lost, and a right program named from outside", COMMAND, becomes(LESS), ("line 2",), {"GV_PACKING_LIST": PROGRAM}),
+        Break("no command", COMMAND, gone, (COMMAND, "host/build")),
+    ],
+    "packing_programs_agree": [
+        Break("a line lost", PROGRAM, becomes(LESS), ("packing_list",)),
+    ],
+    "faults_are_told": [
+        Break("a failure not told", COMMAND, becomes(SILENT), ("stop_behind_a_9: ", "full_device: command, ")),
+    ],
+    "installed_example_runs": [
+        Break("no command", COMMAND, gone, (COMMAND,)),
+    ],
+    "checks_can_fail": [
+        Break("an assert", ORACLE, swap("    sure(place == 0, ", "    assert (place == 0, "), (ORACLE, "an assert")),
+        Break("a variable read", PACKING, swap("\nimport sys\n", "\nimport os, sys\nos.environ.get('X')\n"), (PACKING, "reads a variable")),
+    ],
+    "the gate": [
+        Break("the project's variables let in", "gate/.ci/run", swap("GV_* | ", ""), ("GV_ARCHIVE", "GV_PACKING_LIST", "GV_SEED"), OUTSIDE),
+        Break("Python's variables let in", "gate/.ci/run", swap("PYTHON* | ", ""), ("PYTHONOPTIMIZE",), OUTSIDE),
+        Break("a crate not proved", "gate/bin/rt", swap("1 passed, 0 failed", "1 passed, 1 failed"), ("1 passed, 1 failed",)),
+        Break("a test that fails", "gate/host/tests/one", becomes("#!/bin/sh\necho broken\nexit 1\n"), ("broken",)),
+    ],
+}
+
+
+# The copy, and the runs.
+
+
+def copied(folder):
+    """The tree without what is built, what the checks need of that, and the gate with nothing to prove."""
+    copy = folder / "tree"
+    shutil.copytree(ROOT, copy, ignore=shutil.ignore_patterns("target", ".git", "__pycache__"))
+    for path in (path for pattern in BUILT for path in ROOT.glob(f"target/{pattern}")):
+        to = copy / path.relative_to(ROOT)
+        to.parent.mkdir(parents=True, exist_ok=True)
+        shutil.copy2(path, to)
+        if path.name == "packing_list":
+            shutil.copy2(path, f"{to}{RIGHT}")
+    for name, text in GATE.items():
+        (copy / name).parent.mkdir(parents=True, exist_ok=True)
+        (copy / name).write_text(text)
+        (copy / name).chmod(0o755)
+    shutil.copytree(copy / ".ci", copy / "gate/.ci")
+    return copy
+
+
+@contextlib.contextmanager
+def broken(copy, each):
+    """The copy with one thing changed, and afterwards as it was."""
+    path, aside = copy / each.path, copy.parent / "aside"
+    sure(path.exists(), f"there is no {each.path}")
+    path.rename(aside)
+    try:
+        if each.change is not gone:
+            shutil.copy2(aside, path)
+            each.change(path)
+        yield
+    finally:
+        path.unlink(missing_ok=True)
+        aside.rename(path)
+
+
+def run(copy, test, variables):
+    """The status and the output of a check. It gets these variables of the environment, and the path."""
+    path = f"{copy}/gate/bin:{os.environ['PATH']}" if test == "the gate" else os.environ["PATH"]
+    own = {"PATH": path, "PYTHONDONTWRITEBYTECODE": "1", **variables}
+    command = COMMANDS.get(test, (f"host/tests/{test}",))
+    pipes = {"stdout": subprocess.PIPE, "stderr": subprocess.STDOUT}
+    try:
+        done = subprocess.run(command, cwd=copy, env=own, text=True, timeout=LIMIT, **pipes)
+    except subprocess.TimeoutExpired as late:
+        raise Wrong(f"{test}: no end after {LIMIT} seconds") from late
+    return done.returncode, done.stdout
+
+
+def see(copy, test, each):
+    """Breaks one thing, and sees that the check fails and says what it should."""
+    try:
+        with broken(copy, each):
+            status, said = run(copy, test, each.variables)
+    except Wrong as wrong:
+        raise Wrong(f"{test}: {each.what}: this break cannot be made in {each.path}: {wrong}") from wrong
+    sure(status != 0, f"{test}: {each.what}: not seen; it passes although {each.path} is broken, and says\n{said}")
+    missing = [word for word in each.says if word not in said]
+    sure(not missing, f"{test}: {each.what}: it fails and does not name {missing}, but says\n{said}")
+
+
+def hold_breaks():
+    tests = {path.name for path in ROOT.glob("host/tests/*")}
+    unbroken = tests - BREAKS.keys() - THE_SAME
+    sure(not unbroken, f"no break of {', '.join(sorted(unbroken))}")
+    count = 0
+    with tempfile.TemporaryDirectory() as folder:
+        copy = copied(pathlib.Path(folder))
+        for test, breaks in BREAKS.items():
+            if test not in LONG:
+                status, said = run(copy, test, OUTSIDE if test == "the gate" else {})
+                passes = status == 0 and said.endswith(ENDS.get(test, ""))
+                sure(passes, f"{test}: it does not pass on what is not broken, but says\n{said}")
+            for each in breaks:
+                start = time.monotonic()
+                see(copy, test, each)
+                print(f"{test}: {each.what}: seen, {time.monotonic() - start:.1f} s", flush=True)
+                count += 1
+    print(f"{count} breaks of {len(BREAKS)} checks, each seen")
+    return 0
+
+
+def main():
+    sure(sys.argv[1:] in ([], ["--sources"]), "verify_checks.py, or verify_checks.py --sources")
+    status = hold_sources()
+    return status or (0 if sys.argv[1:] else hold_breaks())
+
+
+if __name__ == "__main__":
+    sys.exit(ended(main))
