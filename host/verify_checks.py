@@ -137,13 +137,14 @@ GATE = {
 LESS = f'#!/bin/sh\nPATH=/usr/bin:/bin\n"$0{RIGHT}" | sed 2d\n'  # a packing list that loses its second line
 SILENT = f'#!/bin/sh\nexec "$0{RIGHT}" "$@" 2>/dev/null\n'  # and one that tells no failure
 
-CLAIMS, VACUITY, SHAMS = "docs/CLAIMS.md", "docs/VACUITY.md", "docs/SHAMS.md"
+CLAIMS, VACUITY, SHAMS, REQUIRES = "docs/CLAIMS.md", "docs/VACUITY.md", "docs/SHAMS.md", "docs/REQUIRES.md"
 FIRST = "| claim | kind | where |\n|---|---|---|---|\n| D1a |"  # behind the first id of a header
 THEOREMS, CASES, BOUNDED = "crates/number/proofs/Theorems.antt", "crates/bounded/proofs/Cases.antt", "crates/bounded/specs/Bounded.antt"
 EDIT = "accepted_has_a_place"
 SHAM, LOG = f"crates/refusal/must-fail/{EDIT}.edit", f"target/must-fail/refusal/{EDIT}/.log"
 HEADER, PAGE, ARCHIVE = "include/ghanveltri.h", "host/man/ghanveltri.3", "target/host/libghanveltri.a"
 COMMAND, PROGRAM = "target/host/packing_list", "target/bin/packing_list"
+LOOK, LOOKUP, STREAM = "| `lookup` | `look` |", "crates/lookup/src/lib.rt", "crates/stream/src/lib.rt"
 GROUND, WALK, ORACLE, PACKING = "crates/cases_ground/stdout", "crates/cases_walk/stdout", "host/oracle.py", "host/packing.py"
 COUNT, COUNTS = "crates/triangle/specs/Count.antt", "crates/triangle/src/table.rt"
 TABLE_1, FIGURE = "Table 1 of source 000", "Figure 2.3 of source 001"
@@ -196,6 +197,19 @@ BREAKS = {
         Break("one space behind a name", BOUNDED, swap("--     every f n     the", "--     evry the"), ("defines no evry",)),
         Break("no name listed", BOUNDED, drop("--     ", 2), (f"{BOUNDED} lists no name",)),
         Break("no head", BOUNDED, drop("--", 3), (f"{BOUNDED} has no head",)),
+    ],
+    "requires_are_listed": [
+        Break("a row deleted", REQUIRES, drop(LOOK), ("look of lookup has a `requires` and no row",)),
+        Break("a row of no such function", REQUIRES, swap(LOOK, "| `lookup` | `luok` |"), ("no function `luok`", "look of lookup")),
+        Break("a row twice", REQUIRES, swap("`table::in_low`", "`table::inside`"), ("table::inside of triangle stands twice",)),
+        Break("a row in another form", REQUIRES, swap(LOOK, "| lookup | `look` |"), (REQUIRES, "a row is `crate`")),
+        Break("a row without a column", REQUIRES, swap(f"{LOOK} public |", LOOK), ("5 columns", "`look`")),
+        Break("a row that does not say why", REQUIRES, swap("| it copies them |", "| |"), ("none is empty",)),
+        Break("a public one said to be private", REQUIRES, swap(f"{LOOK} public |", f"{LOOK} private |"), ("look` of `lookup` is public",)),
+        Break("a private one said to be public", REQUIRES, swap("`reads::kind` | private", "`reads::kind` | public"), ("is private",)),
+        Break("one that is no longer lent on", STREAM, drop("pub use moving::exchange;"), ("`moving::exchange` of `stream` is private",)),
+        Break("a `requires` gone", LOOKUP, drop("    requires {"), ("`lookup` has no function `look` with a `requires`",)),
+        Break("a new `requires`", STREAM, swap("Front\n    ensures", "Front\n    requires { none }\n    ensures"), ("at_front of stream",)),
     ],
     "edits_are_listed": [
         Break("no logs", "target/must-fail", gone, ("target/must-fail", "rt must-fail", "rt ci")),

@@ -8,7 +8,7 @@ use Prim.Native.Nat.{ℕ}
 use native.Mathlib.Omega.{arith}
 use lib.ListN.{getD}
 use Rattle.bounded.specs.Bounded.{every, firstFrom}
-use Rattle.refusal.specs.declared.Refusal.the-variants.{WrongLength, RunTooLong}
+use Rattle.refusal.specs.declared.Refusal.the-variants.{RunTooLong}
 use Rattle.refusal.specs.declared.Verdict.{Verdict}
 use Rattle.refusal.specs.Order.{judge}
 use Rattle.triangle.specs.Count.{N}
@@ -18,7 +18,7 @@ use Rattle.circle.specs.declared.Move.{Move}
 use Rattle.circle.specs.Step.{shift, is01, found, has01, movesNext, next, top}
 use Rattle.circle.specs.Walk.{steps, changed, worked, isDip, dips, OneWay}
 use Rattle.circle.specs.Plan.{Form, applied, changes, Inside, Plans}
-use Rattle.circle.specs.Answers.{left, runRows}
+use Rattle.circle.specs.Answers.{runRows}
 use Rattle.circle.proofs.Circle.{steps-schedule}
 use Rattle.circle.proofs.Theorems.{circle}
 
@@ -129,13 +129,6 @@ no-dips = refl
 one-dip : dips 3 2 3 (1 ∷ 1 ∷ 1 ∷ 0 ∷ 0 ∷ []) ≡ 1
 unfolding shift found has01 movesNext next firstFrom every ones zeros isSchedule steps changed isDip dips
 one-dip = refl
-
--- what a call leaves: its work; refused, what was lent
-leaves-work : left Verdict.Accepted (1 ∷ []) (0 ∷ []) ≡ 1 ∷ []
-leaves-work = refl
-
-leaves-lent : left (Verdict.Refused WrongLength) (1 ∷ []) (0 ∷ []) ≡ 0 ∷ []
-leaves-lent = refl
 
 -- the longest run, and one step more
 run-65535 : judge (runRows 1 1 (1 ∷ 0 ∷ []) 65535) ≡ Verdict.Accepted

@@ -18,7 +18,7 @@ use Rattle.refusal.specs.declared.Answer.{Answer}
 use Rattle.refusal.specs.declared.Refusal.{Refusal}
 use Rattle.refusal.specs.declared.Refusal.the-variants.{RunTooLong}
 use Rattle.refusal.specs.declared.Verdict.{Verdict}
-use Rattle.refusal.specs.Answer.{answer}
+use Rattle.refusal.specs.Answer.{answer, left}
 use Rattle.refusal.specs.Order.{_⇒_, judge}
 use Rattle.refusal.proofs.Order.{judge-refused, judge-accepted, judge-front, judge-back}
 use Rattle.refusal.proofs.Theorems.{accepted-none}
@@ -29,7 +29,7 @@ use Rattle.schedule.proofs.Theorems.{accepted-schedule}
 use Rattle.circle.specs.Step.{next}
 use Rattle.circle.specs.Walk.{steps, changed, worked}
 use Rattle.circle.specs.Plan.{Form}
-use Rattle.circle.specs.Answers.{longest, left, runRows}
+use Rattle.circle.specs.Answers.{longest, runRows}
 use Rattle.circle.proofs.Circle.{next-schedule}
 use Rattle.circle.proofs.Work.{Work, idle, turn, swap, dip, next-work, changed-self, turn-two, swap-two, dip-four}
 

@@ -1,6 +1,5 @@
 -- What the step and the run answer and leave, the manual, "The step" and "Refusal numbers" (Order: schedules). Definitions only.
 --     longest           the most steps that a run may have [A6]
---     left              what a call leaves in the lent schedule: its work, or, refused, what was there
 --     runRows           the refusals of a run, in their order: those of the schedule, then 13 [R6]
 --     nextAnswer, nextLeft     of one step: the changed beats, and the next form
 --     runAnswer, runLeft       of a run of k steps: the changed beats of them all, and the form k steps on [D3g]
@@ -9,8 +8,7 @@ use Prim.Native.Nat.{ℕ}
 use lib.Dec.{ltb}
 use Rattle.refusal.specs.declared.Answer.{Answer}
 use Rattle.refusal.specs.declared.Refusal.the-variants.{RunTooLong}
-use Rattle.refusal.specs.declared.Verdict.{Verdict}
-use Rattle.refusal.specs.Answer.{answer}
+use Rattle.refusal.specs.Answer.{answer, left}
 use Rattle.refusal.specs.Order.{Row, _⇒_, judge}
 use Rattle.schedule.specs.Check.{checkRows, checked}
 use Rattle.circle.specs.Step.{next}
@@ -18,10 +16,6 @@ use Rattle.circle.specs.Walk.{steps, changed, worked}
 
 abbrev pub longest : ℕ
 longest = 65535
-
-abbrev pub left : Verdict → List ℕ → List ℕ → List ℕ
-left Verdict.Accepted done lent = done
-left (Verdict.Refused why) done lent = lent
 
 abbrev pub runRows : ℕ → ℕ → List ℕ → ℕ → List Row
 runRows t s b k = checkRows t s b ++ (ltb longest k ⇒ RunTooLong) ∷ []

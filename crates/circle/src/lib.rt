@@ -19,9 +19,6 @@ use refusal::Verdict;
 // The most steps that a run may have.
 pub const LONGEST_RUN: u64 = 65535;
 
-// The beats of the longest schedule: room for a copy of any.
-const ROOM: usize = 2 * triangle::LARGEST as usize;
-
 // What a step does to a schedule: nothing; a 1 stored at the leftmost 0 and a 0 at another place; or
 // these, and the 0 behind the found 1 moved to the second place.
 enum Move {
@@ -183,7 +180,7 @@ pub fn run_changed(t: u64, s: u64, beats: &[u8], k: u64) -> Answer
         Verdict::Refused(why) => Answer::Refused(why),
         Verdict::Accepted => {
             let n = beats.len();
-            let mut room = [0u8; ROOM];
+            let mut room = [0u8; triangle::BEATS];
             Answer::Value(walk_copy(beats, &mut room[..n], k))
         }
     }

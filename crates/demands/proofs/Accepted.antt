@@ -14,6 +14,7 @@ use native.Mathlib.Omega.{arith}
 use borrow.Author.Tests.{ltb-false}
 use lib.Dec.{ltb}
 use lib.ListN.{length}
+use Rattle.form.specs.Answers.{numberRows, sheetVerdict}
 use Rattle.refusal.specs.declared.Refusal.the-variants.{UnknownKind, NoRoom, RunTooLong}
 use Rattle.refusal.specs.declared.Verdict.{Verdict}
 use Rattle.refusal.specs.Answer.{answer, verdict}
@@ -27,8 +28,7 @@ use Rattle.schedule.specs.Schedule.{Schedule}
 use Rattle.schedule.specs.Check.{checkRows, checked}
 use Rattle.schedule.proofs.Theorems.{accepted-schedule}
 use Rattle.circle.specs.Answers.{longest, runRows}
-use Rattle.number.specs.Answers.{numberRows, sheetVerdict}
-use Rattle.number.proofs.Verdicts.{number-allowed, form-allowed}
+use Rattle.form.proofs.Verdicts.{number-allowed, form-allowed}
 use Rattle.tree.specs.Table.{Treed, filled, kept}
 use Rattle.tree.proofs.Sizes.{sizes-right}
 use Rattle.tree.proofs.Theorems.{tree-accepts}

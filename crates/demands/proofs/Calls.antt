@@ -8,6 +8,7 @@ use mathlib.Core.Path.{_≡_, refl, _∙_, ap, sym}
 use Prim.Native.Nat.{ℕ, zero, suc}
 use native.Mathlib.Omega.{arith}
 use lib.ListN.{length, getD, take}
+use Rattle.refusal.specs.Answer.{left}
 use Rattle.refusal.specs.declared.Answer.{Answer}
 use Rattle.refusal.specs.declared.Refusal.{Refusal}
 use Rattle.refusal.specs.declared.Verdict.{Verdict}
@@ -15,7 +16,7 @@ use Rattle.refusal.specs.Order.{judge}
 use Rattle.refusal.proofs.Theorems.{verdict-answer}
 use Rattle.counts.specs.Counts.{counting}
 use Rattle.schedule.specs.Check.{checked}
-use Rattle.circle.specs.Answers.{left, runRows, nextAnswer, runAnswer}
+use Rattle.circle.specs.Answers.{runRows, nextAnswer, runAnswer}
 use Rattle.circle.specs.Step as rule
 use Rattle.circle.specs.Walk as walk
 use Rattle.number.specs.Answers.{numberAnswer}

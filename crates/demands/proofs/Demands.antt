@@ -10,10 +10,11 @@ use native.Mathlib.Omega.{arith}
 use borrow.Author.Tests.{ltb-false}
 use lib.Dec.{ltb}
 use lib.ListN.{length, getD}
+use Rattle.form.specs.Answers.{formLeft}
 use Rattle.refusal.specs.declared.Answer.{Answer}
 use Rattle.refusal.specs.declared.Refusal.the-variants.{RunTooLong}
 use Rattle.refusal.specs.declared.Verdict.{Verdict}
-use Rattle.refusal.specs.Answer.{answer, value}
+use Rattle.refusal.specs.Answer.{answer, value, left}
 use Rattle.refusal.specs.Order.{_⇒_, judge}
 use Rattle.refusal.proofs.Order.{judge-back}
 use Rattle.refusal.proofs.Theorems.{accepted-none, refused-number}
@@ -24,16 +25,16 @@ use Rattle.counts.proofs.Sizes.{allowed-counts}
 use Rattle.schedule.specs.Schedule.{Schedule}
 use Rattle.schedule.specs.Check.{checkRows, checked}
 use Rattle.schedule.proofs.Theorems.{accepted-schedule, schedule-accepted, N-schedules, lists-N}
-use Rattle.circle.specs.Answers.{longest, left, runRows, runLeft}
+use Rattle.circle.specs.Answers.{longest, runRows, runLeft}
 use Rattle.circle.specs.Walk.{worked}
 use Rattle.circle.proofs.Forms.{run-taken}
 use Rattle.circle.proofs.Theorems.{circle, circle-start-last, step-changes, round-changes}
 use Rattle.number.specs.Number.{Fewest, numberOf, formOf}
-use Rattle.number.specs.Answers.{numberAnswer, formLeft}
+use Rattle.number.specs.Answers.{numberAnswer}
 use Rattle.number.proofs.Numbers.{form-schedule}
 use Rattle.number.proofs.Theorems.{number-fewest, number-below}
-use Rattle.number.proofs.Verdicts.{form-allowed}
-use Rattle.number.proofs.Agreement.{form-accepted, asked-numbered, numbered-asked, walked-asked}
+use Rattle.form.proofs.Verdicts.{form-allowed}
+use Rattle.form.proofs.Agreement.{form-accepted, asked-numbered, numbered-asked, walked-asked}
 use Rattle.demands.specs.Calls.{number, form, run, Gives}
 use Rattle.demands.specs.Demands.{Demand1, Demand2, Demand3, Demand3All, Demands}
 use Rattle.demands.proofs.Calls.{call-unchanged, call-silent, call-one}

@@ -13,13 +13,14 @@ use mathlib.Core.List.{List, [], _∷_}
 use mathlib.Core.Path.{_≡_}
 use Prim.Native.Nat.{ℕ, _+_}
 use lib.ListN.{take}
+use Rattle.form.specs.Answers.{formVerdict, formLeft, sheetVerdict, sheetLeft}
 use Rattle.refusal.specs.declared.Answer.{Answer}
 use Rattle.refusal.specs.declared.Verdict.{Verdict}
 use Rattle.refusal.specs.Answer.{verdict, value}
 use Rattle.counts.specs.Counts.{counting}
 use Rattle.schedule.specs.Check.{checked}
 use Rattle.circle.specs.Answers.{nextAnswer, nextLeft, runAnswer, runLeft}
-use Rattle.number.specs.Answers.{numberAnswer, formVerdict, formLeft, sheetVerdict, sheetLeft}
+use Rattle.number.specs.Answers.{numberAnswer}
 use Rattle.tree.specs.Table.{Treed}
 use Rattle.tree_back.specs.Back.{Untreed}
 use Rattle.record.specs.Record.{ups, downs, writeAnswer, writeLeft}

@@ -18,7 +18,7 @@ use lib.ListN.{length, getD}
 use Rattle.refusal.specs.declared.Refusal.{Refusal}
 use Rattle.refusal.specs.declared.Verdict.{Verdict}
 use Rattle.refusal.specs.Refusal.{numberOf}
-use Rattle.triangle.specs.Count.{N, largest}
+use Rattle.triangle.specs.Count.{N, largest, mostBeats}
 use Rattle.counts.specs.Counts.{Allowed}
 use Rattle.schedule.specs.Schedule.{Schedule, Lists}
 use Rattle.circle.specs.Step as rule
@@ -39,7 +39,7 @@ pub data Wrong : Call → Type 0 where
   no-form-on-sheet : {t s n : ℕ} {sheet : List ℕ} {column : ℕ} → N t s ≤ n → Wrong (form-on-sheet t s n sheet column)
   no-form-in-record : {src out : List ℕ} → kindIn src ≡ numbered → N (ups src) (downs src) ≤ valueOf (body src) → Wrong (read src out)
   sheet-short : {t s n : ℕ} {sheet : List ℕ} {column : ℕ} → length sheet < column + t + s → Wrong (form-on-sheet t s n sheet column)
-  places-few : {src out : List ℕ} → length out < largest + largest → Wrong (read src out)
+  places-few : {src out : List ℕ} → length out < mostBeats → Wrong (read src out)
   room-short : {kind t s : ℕ} {b out : List ℕ} → length out < length (recordOf kind t s b) → Wrong (write kind t s b out)
   size-tiny : {src out : List ℕ} → long src < 2 → Wrong (read src out)
   size-numbered : {src out : List ℕ} → kindIn src ≡ numbered → long src ≢ 12 → Wrong (read src out)

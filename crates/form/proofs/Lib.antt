@@ -1,3 +1,5 @@
+pub mod Verdicts
+pub mod Agreement
 pub mod Filling
 pub mod Writing
 pub mod Cases

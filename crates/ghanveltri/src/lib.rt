@@ -6,11 +6,12 @@
 // each by an equation. [W3] [F4] [P13]
 ghost use mathlib.Core.Path.{_≡_};
 ghost use Prim.Native.Nat.{_≤_};
+ghost use Rattle.form.specs.Answers.{formVerdict, formLeft};
 ghost use Rattle.refusal.specs.Answer.{refusal, place, verdict, value};
 ghost use Rattle.counts.specs.Counts.{counting};
 ghost use Rattle.schedule.specs.Check.{checked};
 ghost use Rattle.circle.specs.Answers.{nextAnswer, nextLeft, runAnswer, runLeft};
-ghost use Rattle.number.specs.Answers.{numberAnswer, formVerdict, formLeft};
+ghost use Rattle.number.specs.Answers.{numberAnswer};
 
 // The version, 1.1.0: major * 1000000 + minor * 1000 + patch.
 const VERSION: u64 = 1001000;

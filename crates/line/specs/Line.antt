@@ -1,21 +1,14 @@
 -- The text of a line of the packing list, the manual, "The packing list": lists of ASCII codes. Definitions only.
---     digits k n       the digits of n in base ten, the most significant first, found by at most k divisions; none for 0
---     decimal n        the digits of n, and the digit 0 for 0; n divisions are enough for any n
 --     Beats b          every beat is 0 or 1
 --     beatText b       the beats run together as digits; - for the empty schedule
 --     acceptedLine     t, s, the number and the beats, separated by one space; a line feed ends the line
---     refusedLine      the word refused, the refusal's number and the place, separated so; a line feed ends the line
+--     refusedLine      the word refused, the refusal's number and its place, separated so; a line feed ends the line
 use mathlib.Core.List.{List, [], _∷_, _++_, map}
-use Prim.Native.Nat.{ℕ, zero, suc, _+_, _/_, _%_, _≤_, _<_}
+use Prim.Native.Nat.{ℕ, _+_, _≤_, _<_}
 use lib.ListN.{length, getD}
-
-unfoldable pub digits : ℕ → ℕ → List ℕ
-digits zero n = []
-digits (suc k) zero = []
-digits (suc k) (suc n) = digits k (suc n / 10) ++ (48 + suc n % 10) ∷ []
-
-unfoldable pub decimal : ℕ → List ℕ
-decimal n = digits n (n / 10) ++ (48 + n % 10) ∷ []
+use Rattle.refusal.specs.declared.Refusal.{Refusal}
+use Rattle.refusal.specs.Refusal.{numberOf, placeOf}
+use Rattle.text.specs.Decimal.{decimal}
 
 abbrev pub Beats : List ℕ → Type 0
 Beats b = (k : ℕ) → k < length b → getD b k 0 ≤ 1
@@ -28,6 +21,6 @@ abbrev pub acceptedLine : ℕ → ℕ → ℕ → List ℕ → List ℕ
 acceptedLine t s n b = decimal t ++ 32 ∷ decimal s ++ 32 ∷ decimal n ++ 32 ∷ beatText b ++ 10 ∷ []
 
 -- 114, 101, 102, 117, 115, 101, 100 and 32 are the word refused and a space
-abbrev pub refusedLine : ℕ → ℕ → List ℕ
-refusedLine number place =
-    114 ∷ 101 ∷ 102 ∷ 117 ∷ 115 ∷ 101 ∷ 100 ∷ 32 ∷ decimal number ++ 32 ∷ decimal place ++ 10 ∷ []
+abbrev pub refusedLine : Refusal → List ℕ
+refusedLine why =
+    114 ∷ 101 ∷ 102 ∷ 117 ∷ 115 ∷ 101 ∷ 100 ∷ 32 ∷ decimal (numberOf why) ++ 32 ∷ decimal (placeOf why) ++ 10 ∷ []

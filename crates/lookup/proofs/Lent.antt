@@ -2,9 +2,7 @@
 --     table-counts     the table has the counts
 --     none-counts      no rows have them, too
 -- Assumes nothing.
-use mathlib.Core.List.{List, []}
-use mathlib.Core.Path.{_≡_}
-use Prim.Native.Nat.{ℕ}
+use mathlib.Core.List.{[]}
 use native.Mathlib.Omega.{arith}
 use Rattle.triangle.specs.Table.{table}
 use Rattle.triangle.proofs.Rule.{at-counted}

@@ -8,18 +8,14 @@ use Prim.Native.Nat.{ℕ}
 use native.Mathlib.Omega.{arith}
 use lib.ListN.{getD}
 use Rattle.bounded.specs.Bounded.{every, firstFrom}
-use Rattle.refusal.specs.declared.Refusal.the-variants.{NoSuchNumber}
-use Rattle.refusal.specs.declared.Verdict.{Verdict}
-use Rattle.refusal.specs.Order.{judge}
 use Rattle.triangle.specs.Count.{N}
 use Rattle.schedule.specs.Schedule.{ones, zeros, Schedule, isSchedule, Lists}
 use Rattle.schedule.proofs.Cases.{fits-11010, ahead-1001}
 use Rattle.circle.specs.Step.{shift, found, has01, movesNext, next}
 use Rattle.circle.specs.Walk.{steps, changed}
-use Rattle.number.specs.Number.{Fewest, same, numberOf, formOf}
+use Rattle.number.specs.Number.{start, Fewest, same, numberOf, formOf}
 use Rattle.number.specs.Groups.{upTo, lastGroup, ending, S}
 use Rattle.number.specs.Ranking.{isSized, goesOn, Ranks}
-use Rattle.number.specs.Answers.{numberRows, onSheet}
 use Rattle.number.proofs.Theorems.{number-fewest, S-lists}
 
 -- the third of the four forms of 4, 1, and the sixth of the nine of 4, 2
@@ -144,18 +140,9 @@ ranks-1001 a p = ahead-1001 p
 ranks-not-1001 : (n : ℕ) → Ranks 2 2 (1 ∷ 0 ∷ 0 ∷ 1 ∷ []) true n → ⊥
 ranks-not-1001 n p = ahead-1001 (p .1)
 
--- the last number of 3, 2, and one past it
-taken-4 : judge (numberRows 3 2 4) ≡ Verdict.Accepted
-unfolding N
-taken-4 = refl
+-- counting starts at all ones and then the zeros
+start-3-2 : start 3 2 ≡ 1 ∷ 1 ∷ 1 ∷ 0 ∷ 0 ∷ []
+start-3-2 = refl
 
-beyond-5 : judge (numberRows 3 2 5) ≡ Verdict.Refused NoSuchNumber
-unfolding N
-beyond-5 = refl
-
--- a form from column 1 on, and from column 0 on
-sheet-1 : onSheet 1 (1 ∷ 0 ∷ []) (7 ∷ 7 ∷ 7 ∷ 7 ∷ []) ≡ 7 ∷ 1 ∷ 0 ∷ 7 ∷ []
-sheet-1 = refl
-
-sheet-0 : onSheet 0 (1 ∷ 0 ∷ []) (7 ∷ 7 ∷ 7 ∷ 7 ∷ []) ≡ 1 ∷ 0 ∷ 7 ∷ 7 ∷ []
-sheet-0 = refl
+start-1-1 : start 1 1 ≡ 1 ∷ 0 ∷ []
+start-1-1 = refl

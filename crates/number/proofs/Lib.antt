@@ -4,6 +4,4 @@ pub mod InGroups
 pub mod Theorems
 pub mod Rising
 pub mod Counting
-pub mod Verdicts
-pub mod Agreement
 pub mod Cases

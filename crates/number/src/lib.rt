@@ -4,19 +4,14 @@
 ghost use mathlib.Core.Bool.{false};
 ghost use mathlib.Core.Path.{_≡_};
 ghost use Prim.Native.Nat.{_+_, _-_, _*_, _≤_};
-ghost use Rattle.triangle.specs.Count.{N, largest};
+ghost use Rattle.triangle.specs.Count.{N, largest, mostBeats};
 ghost use Rattle.lookup.specs.Lent.{Counts};
 ghost use Rattle.number.specs.Answers.{numberAnswer};
 ghost use Rattle.number.specs.Ranking.{isSized, goesOn, Ranks};
 use refusal::Answer;
 use refusal::Verdict;
+use schedule::wide;
 use triangle::SIDE;
-
-fn wide(beat: u8) -> u64
-    ensures { λ r. ⌜ r ≡ beat ⌝ }
-{
-    beat as u64
-}
 
 // What a beat behind ups ones and downs zeros, not all ones before all zeros, adds to the number. No
 // branch goes by the beat, which could not be predicted.
@@ -42,7 +37,7 @@ fn sized(t: u64, s: u64, beats: &[u8]) -> bool
 
 // Whether a beat may stand behind ups ones and downs zeros of a schedule of t ones.
 fn fits(t: u64, ups: u64, downs: u64, beat: u64) -> bool
-    requires { ⌜ ups ≤ largest + largest ⌝ }
+    requires { ⌜ ups ≤ mostBeats ⌝ }
     ensures { λ r. ⌜ r ≡ goesOn t ups downs beat ⌝ }
 {
     if 1 < beat {

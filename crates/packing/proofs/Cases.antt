@@ -6,13 +6,14 @@ use mathlib.Core.Path.{_≡_, refl}
 use Prim.Native.Nat.{ℕ, _<_}
 use native.Mathlib.Omega.{arith}
 use lib.ListN.{replicate}
+use Rattle.text.specs.Decimal.{digits, decimal}
 use Rattle.bounded.specs.Bounded.{every, firstFrom}
 use Rattle.triangle.specs.Count.{N}
 use Rattle.schedule.specs.Schedule.{ones, zeros, isSchedule}
 use Rattle.circle.specs.Step.{shift, found, has01, movesNext, next}
 use Rattle.circle.specs.Walk.{steps, changed}
 use Rattle.record.specs.Bytes.{valueOf, tabulate}
-use Rattle.line.specs.Line.{digits, decimal, beatText}
+use Rattle.line.specs.Line.{beatText}
 use Rattle.stream.specs.declared.Front.{Front}
 use Rattle.stream.specs.declared.Stream.{Stream}
 use Rattle.stream.specs.Stream.{listFrom}

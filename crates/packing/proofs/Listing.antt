@@ -13,9 +13,9 @@ use lib.ListN.{length, take, drop}
 use lib.Seq.{take-at}
 use Rattle.refusal.specs.declared.Refusal.{Refusal}
 use Rattle.refusal.specs.declared.Verdict.{Verdict}
-use Rattle.refusal.specs.Refusal.{numberOf, placeOf}
+use Rattle.refusal.specs.Refusal.{numberOf}
 use Rattle.refusal.specs.Order.{judge}
-use Rattle.triangle.specs.Count.{largest}
+use Rattle.triangle.specs.Count.{mostBeats}
 use Rattle.counts.specs.Counts.{Allowed}
 use Rattle.schedule.specs.Schedule.{Schedule}
 use Rattle.record.specs.Record.{long, kindIn, ups, downs, body, meant, meantNumber, readRows, eaten}
@@ -26,12 +26,12 @@ use Rattle.order.specs.Parts as said
 use Rattle.reading.proofs.Verdicts.{told-verdict}
 use Rattle.reading.proofs.Meaning.{Means, read-means}
 use Rattle.line.specs.Line.{acceptedLine, refusedLine}
-use Rattle.line.specs.Written.{Written}
+use Rattle.text.specs.Written.{Written}
 use Rattle.stream.specs.Stream.{verdictOn, passing, passed, ending, ends}
 use Rattle.stream.specs.Pass.{Prints}
 use Rattle.packing.specs.Listed.{text, lineOf}
 
-module _ (src room : List ℕ) (h : length room ≡ largest + largest) where
+module _ (src room : List ℕ) (h : length room ≡ mostBeats) where
   abbrev number : ℕ
   number = meantNumber (kindIn src) (ups src) (downs src) (body src)
 
@@ -83,7 +83,7 @@ module _ (src room : List ℕ) (h : length room ≡ largest + largest) where
       is-s = ap said.s (sym same)
 
       means : Means src (kindIn src)
-      means = read-means src (largest + largest) taken
+      means = read-means src mostBeats taken
 
       there : readLeft src room ≡ beats ++ drop (ups src + downs src) room
       there = left-is ∙ ap (λ (v : Verdict). leaving (kindIn src) src v room) taken
@@ -104,7 +104,7 @@ module _ (src out : List ℕ) where
     written = w .text ∙ ap (λ (j : ℕ). lineOf src ++ drop j out) (zero-add (length (lineOf src)));
   }
 
-  pub list-accepted : (room : List ℕ) (h : length room ≡ largest + largest) (o : Order) → Ordered src room h o
+  pub list-accepted : (room : List ℕ) (h : length room ≡ mostBeats) (o : Order) → Ordered src room h o
       → (u : List ℕ) → u ≡ meant (kindIn src) (ups src) (downs src) (body src)
       → {bytes : ℕ} {after : List ℕ} → Written 0 (acceptedLine (o .t) (o .s) (o .number) u) out after bytes
       → Prints lineOf src out (record { consumed = o .consumed; bytes = bytes; last = false }) after
@@ -112,9 +112,9 @@ module _ (src out : List ℕ) where
       as-printed (f .is-consumed ∙ ap (passing src) (sym (f .taken))) (ap ending (sym (f .taken)))
       (subst (λ (l : List ℕ). Written 0 l out after bytes) (rw (f .is-t, f .is-s, f .is-number, e) (ap (text src) (sym (f .taken)))) w)
 
-  pub list-refused : (why : Refusal) → verdictOn src ≡ Verdict.Refused why → {consumed number place bytes : ℕ} {after : List ℕ}
-      → consumed ≡ eaten why (long src) → number ≡ numberOf why → place ≡ placeOf why → Written 0 (refusedLine number place) out after bytes
+  pub list-refused : (why : Refusal) → verdictOn src ≡ Verdict.Refused why → {consumed number bytes : ℕ} {after : List ℕ}
+      → consumed ≡ eaten why (long src) → number ≡ numberOf why → Written 0 (refusedLine why) out after bytes
       → Prints lineOf src out (record { consumed = consumed; bytes = bytes; last = eqb number 9 }) after
-  list-refused why e {bytes = bytes} {after} ec en ep w =
+  list-refused why e {bytes = bytes} {after} ec en w =
       as-printed (ec ∙ ap (passing src) (sym e)) (ap (λ (j : ℕ). eqb j 9) en ∙ ap ending (sym e))
-      (subst (λ (l : List ℕ). Written 0 l out after bytes) (rw (en, ep) (ap (text src) (sym e))) w)
+      (subst (λ (l : List ℕ). Written 0 l out after bytes) (ap (text src) (sym e)) w)

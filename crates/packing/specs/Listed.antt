@@ -12,8 +12,7 @@ use mathlib.Core.Path.{_≡_}
 use Prim.Native.Nat.{ℕ, _+_, _≤_}
 use lib.ListN.{length}
 use Rattle.refusal.specs.declared.Verdict.{Verdict}
-use Rattle.refusal.specs.Refusal.{numberOf, placeOf}
-use Rattle.triangle.specs.Count.{largest}
+use Rattle.triangle.specs.Count.{mostBeats}
 use Rattle.record.specs.Record.{longest, kindIn, ups, downs, body, meant, meantNumber}
 use Rattle.line.specs.Line.{acceptedLine, refusedLine}
 use Rattle.stream.specs.declared.Stream.{Stream}
@@ -25,20 +24,20 @@ abbrev pub text : List ℕ → Verdict → List ℕ
 text src Verdict.Accepted =
     acceptedLine (ups src) (downs src) (meantNumber (kindIn src) (ups src) (downs src) (body src))
     (meant (kindIn src) (ups src) (downs src) (body src))
-text src (Verdict.Refused why) = refusedLine (numberOf why) (placeOf why)
+text src (Verdict.Refused why) = refusedLine why
 
 abbrev pub lineOf : List ℕ → List ℕ
 lineOf src = text src (verdictOn src)
 
 abbrev pub widest : ℕ
-widest = 64 + (largest + largest)
+widest = 64 + mostBeats
 
 abbrev pub packingList : List ℕ → List ℕ
 packingList input = listOf lineOf input
 
 pub record Buffers (input room : List ℕ) : Type 0 where
   pub any-record : 2 + longest ≤ length input
-  pub any-beats : length room ≡ largest + largest
+  pub any-beats : length room ≡ mostBeats
 
 pub record Turned (input lent : List ℕ) (stream : Stream) (after : List ℕ) (next : Stream) : Type 0 where
   pub inside : Inside after next

@@ -4,7 +4,7 @@
 ghost use mathlib.Core.Path.{_≡_};
 ghost use Prim.Native.Nat.{_+_, _≤_};
 ghost use lib.ListN.{length};
-ghost use Rattle.triangle.specs.Count.{largest};
+ghost use Rattle.triangle.specs.Count.{mostBeats};
 ghost use Rattle.lookup.specs.Lent.{Counts};
 ghost use Rattle.stream.specs.Exchange.{Inside};
 ghost use Rattle.stream.specs.Pass.{Prints, Passes};
@@ -16,15 +16,13 @@ use stream::Printed;
 use stream::Stream;
 use triangle::SIDE;
 
-const BEATS: usize = 2 * triangle::LARGEST as usize;
-
 // The bytes that every line fits into.
-const WIDEST: usize = 64 + BEATS;
+const WIDEST: usize = 64 + triangle::BEATS;
 
 // Writes the line of the record that a slice starts with at the start of the lent bytes, leaving the others. The
 // room takes its beats.
 fn list(rows: &[[u64; SIDE]], src: &[u8], room: &mut [u8], out: &mut [u8]) -> Printed
-    requires { ⌜ Counts (now rows) × (length (now room) ≡ largest + largest) × (widest ≤ length (now out)) ⌝ }
+    requires { ⌜ Counts (now rows) × (length (now room) ≡ mostBeats) × (widest ≤ length (now out)) ⌝ }
     ensures { λ r. ⌜ Prints lineOf (now (src .entry)) (now (out .entry)) r (now (out .exit)) ⌝ }
 {
     let reading = reading::read_by(rows, src, room);
@@ -40,7 +38,7 @@ fn list(rows: &[[u64; SIDE]], src: &[u8], room: &mut [u8], out: &mut [u8]) -> Pr
         }
         Reading::Refused(why, consumed) => {
             let number = why.number();
-            let bytes = line::refused(number, why.place(), out);
+            let bytes = line::refused(why, out);
             Printed {
                 consumed,
                 bytes,
@@ -58,7 +56,7 @@ fn list_window(
     room: &mut [u8],
     text: &mut [u8],
 ) -> Pass
-    requires { ⌜ Counts (now rows) × (length (now room) ≡ largest + largest) ⌝ }
+    requires { ⌜ Counts (now rows) × (length (now room) ≡ mostBeats) ⌝ }
     ensures { λ r. ⌜ Passes lineOf widest ended (now (src .entry)) (now (text .entry)) r (now (text .exit)) ⌝ }
 {
     let mut at = 0;
@@ -141,7 +139,7 @@ pub fn list_all(from: i32, to: i32) -> u64
     ensures { λ r. ⌜ r ≤ 2 ⌝ }
 {
     let mut input = io::large_buffer();
-    let mut room = [0u8; BEATS];
+    let mut room = [0u8; triangle::BEATS];
     let mut text = io::large_buffer();
     let rows = triangle::rows();
     run(&rows, from, to, &mut input, &mut room, &mut text)

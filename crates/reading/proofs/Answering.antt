@@ -10,13 +10,13 @@ use mathlib.Core.Path.{_≡_, sym, _∙_, ap}
 use Prim.Native.Nat.{ℕ, _+_, _≤_, _<_}
 use borrow.Author.Tests.{lt-ltb, le-ltb, eq-eqb, ne-eqb}
 use lib.ListN.{drop}
+use Rattle.form.specs.Answers.{numberRows}
+use Rattle.refusal.specs.Answer.{left}
 use Rattle.refusal.specs.declared.Refusal.the-variants.{WrongSize, UnknownKind, NoRoom, CutShort}
 use Rattle.refusal.specs.declared.Verdict.{Verdict}
 use Rattle.refusal.specs.Order.{Row, _⇒_, judge}
-use Rattle.triangle.specs.Count.{largest}
+use Rattle.triangle.specs.Count.{mostBeats}
 use Rattle.counts.specs.Counts.{countRows}
-use Rattle.circle.specs.Answers.{left}
-use Rattle.number.specs.Answers.{numberRows}
 use Rattle.number.specs.Number.{numberOf, formOf}
 use Rattle.record.specs.Bytes.{valueOf, unpacked}
 use Rattle.record.specs.Record.{numbered, beaten, long, ups, downs, body, bodyRows, kindRows, readRows, kindIn, isUnknown, cut}
@@ -64,20 +64,20 @@ module _ (src : List ℕ) where
           (ap (λ (v : Verdict). left v (unpacked (ups src + downs src) (body src) ++ drop (ups src + downs src) out) out) (sym (beaten-fits h)))
 
 module _ (room : ℕ) (src : List ℕ) where
-  pub read-room : room < largest + largest → judge (readRows room src) ≡ Verdict.Refused NoRoom
-  read-room h = simp (lt-ltb room (largest + largest) h)
+  pub read-room : room < mostBeats → judge (readRows room src) ≡ Verdict.Refused NoRoom
+  read-room h = simp (lt-ltb room mostBeats h)
 
-  module _ (h : largest + largest ≤ room) where
+  module _ (h : mostBeats ≤ room) where
     pub read-cut : cut src ≡ true → judge (readRows room src) ≡ Verdict.Refused CutShort
-    read-cut e = simp (le-ltb room (largest + largest) h, e)
+    read-cut e = simp (le-ltb room mostBeats h, e)
 
     module _ (e : cut src ≡ false) where
       pub read-tiny : long src < 2 → judge (readRows room src) ≡ Verdict.Refused WrongSize
-      read-tiny l = simp (le-ltb room (largest + largest) h, e, lt-ltb (long src) 2 l)
+      read-tiny l = simp (le-ltb room mostBeats h, e, lt-ltb (long src) 2 l)
 
       module _ (l : 2 ≤ long src) where
         pub read-unknown : isUnknown (kindIn src) ≡ true → judge (readRows room src) ≡ Verdict.Refused UnknownKind
-        read-unknown k = simp (le-ltb room (largest + largest) h, e, le-ltb (long src) 2 l, k)
+        read-unknown k = simp (le-ltb room mostBeats h, e, le-ltb (long src) 2 l, k)
 
         pub read-kind : isUnknown (kindIn src) ≡ false → judge (readRows room src) ≡ judge (kindRows (kindIn src) src)
-        read-kind k = simp (le-ltb room (largest + largest) h, e, le-ltb (long src) 2 l, k)
+        read-kind k = simp (le-ltb room mostBeats h, e, le-ltb (long src) 2 l, k)

@@ -22,7 +22,7 @@ use Rattle.schedule.proofs.Theorems.{accepted-schedule}
 use Rattle.number.specs.Number.{numberOf}
 use Rattle.number.proofs.Numbers.{form-schedule}
 use Rattle.number.proofs.Theorems.{form-number}
-use Rattle.number.proofs.Verdicts.{number-allowed}
+use Rattle.form.proofs.Verdicts.{number-allowed}
 use Rattle.record.specs.Bytes.{valueOf, bytesFor, beatAt, unpacked, unused}
 use Rattle.record.specs.Record.{Kind, numbered, beaten, unknown, isUnknown, long, kindIn, ups, downs, body, bodyRows, kindRows, readRows, meant, meantNumber}
 use Rattle.record.proofs.Packing.{length-tabulate}

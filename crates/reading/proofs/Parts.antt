@@ -18,7 +18,7 @@ use Rattle.refusal.specs.declared.Verdict.{Verdict}
 use Rattle.refusal.specs.Order.{judge}
 use Rattle.refusal.proofs.Order.{judge-front, judge-back}
 use Rattle.refusal.proofs.Theorems.{accepted-none}
-use Rattle.triangle.specs.Count.{largest}
+use Rattle.triangle.specs.Count.{mostBeats}
 use Rattle.record.specs.Bytes.{lowFirst, valueOf, spell, bytesFor, packed, unused}
 use Rattle.record.specs.Record.{long, kindIn, isUnknown, ups, downs, cut, headRows, kindRows, readRows}
 use Rattle.record.proofs.Packing.{getD-tabulate}
@@ -77,11 +77,11 @@ unused-packed b = elim (ℕ-discrete (length b % 8) 0) [ yes e ↦ none e | no m
 
 module _ (room : ℕ) (src : List ℕ) where
   pub read-facts : judge (readRows room src) ≡ Verdict.Accepted
-      → (largest + largest ≤ room) × (cut src ≡ false) × (2 ≤ long src) × (isUnknown (kindIn src) ≡ false) × (judge (kindRows (kindIn src) src) ≡ Verdict.Accepted)
+      → (mostBeats ≤ room) × (cut src ≡ false) × (2 ≤ long src) × (isUnknown (kindIn src) ≡ false) × (judge (kindRows (kindIn src) src) ≡ Verdict.Accepted)
   read-facts e =
       let front = judge-front (headRows room src) (kindRows (kindIn src) src) e in
       let none = accepted-none (headRows room src) front in (
-        ltb-false room (largest + largest) (none _ (List·Memᴰ·head refl)),
+        ltb-false room mostBeats (none _ (List·Memᴰ·head refl)),
         none _ (List·Memᴰ·tail (List·Memᴰ·head refl)),
         ltb-false (long src) 2 (none _ (List·Memᴰ·tail (List·Memᴰ·tail (List·Memᴰ·head refl)))),
         none _ (List·Memᴰ·tail (List·Memᴰ·tail (List·Memᴰ·tail (List·Memᴰ·head refl)))),

@@ -14,21 +14,21 @@ use native.Mathlib.Omega.{arith}
 use borrow.Author.Tests.{le-ltb, eq-eqb}
 use lib.ListN.{length, getD, take, drop, length-append, length-drop, List·getD-eq-default}
 use lib.Seq.{take-at, getD-drop, getD-take, length-take-le}
+use Rattle.form.specs.Answers.{numberRows}
 use Rattle.refusal.specs.declared.Verdict.{Verdict}
 use Rattle.refusal.specs.Order.{judge}
 use Rattle.refusal.proofs.Order.{judge-front, judge-accepted}
 use Rattle.refusal.proofs.Theorems.{accepted-none}
-use Rattle.triangle.specs.Count.{largest}
+use Rattle.triangle.specs.Count.{mostBeats}
 use Rattle.triangle.proofs.Theorems.{fits-64-bits}
 use Rattle.counts.specs.Counts.{Allowed, countRows}
 use Rattle.counts.proofs.Sizes.{allowed-counts}
 use Rattle.schedule.specs.Schedule.{Schedule}
 use Rattle.schedule.specs.Check.{checkRows}
 use Rattle.schedule.proofs.Theorems.{accepted-schedule, schedule-accepted}
-use Rattle.number.specs.Answers.{numberRows}
 use Rattle.number.specs.Number.{numberOf, formOf}
 use Rattle.number.proofs.Theorems.{number-form, form-number, number-below}
-use Rattle.number.proofs.Verdicts.{number-taken}
+use Rattle.form.proofs.Verdicts.{number-taken}
 use Rattle.record.specs.Bytes.{lowFirst, valueOf, bytesFor, packed, unpacked, unused}
 use Rattle.record.specs.Record.{Kind, numbered, beaten, unknown, kindOf, isUnknown, payload, recordOf, long, kindIn, ups, downs, body, cut, bodyRows, kindRows, readRows, meant, meantNumber, roomRow, writeRows}
 use Rattle.record.proofs.Numerals.{Bytes, value-low, low-value, length-low}
@@ -76,7 +76,7 @@ module _ (kind t s : ℕ) (b rest : List ℕ) (a : Allowed t s) (q : Schedule t 
 
 -- what reading a slice is to say: that it is a record of this form
 pub record Says (src : List ℕ) (t s n : ℕ) (b : List ℕ) (bytes : ℕ) : Type 0 where
-  pub accepted : (room : ℕ) → largest + largest ≤ room → judge (readRows room src) ≡ Verdict.Accepted
+  pub accepted : (room : ℕ) → mostBeats ≤ room → judge (readRows room src) ≡ Verdict.Accepted
   pub t-is : ups src ≡ t
   pub s-is : downs src ≡ s
   pub number-is : meantNumber (kindIn src) (ups src) (downs src) (body src) ≡ n
@@ -176,7 +176,7 @@ module _ (t s : ℕ) (b rest : List ℕ) (a : Allowed t s) (q : Schedule t s b) 
   says (suc (suc (suc k))) u = absurd (true≢false u)
 
 -- what reading such a slice answers and leaves
-says-all : (t s : ℕ) (b rest lent : List ℕ) → largest + largest ≤ length lent → {src : List ℕ} {n bytes : ℕ} → Says src t s n b bytes
+says-all : (t s : ℕ) (b rest lent : List ℕ) → mostBeats ≤ length lent → {src : List ℕ} {n bytes : ℕ} → Says src t s n b bytes
     → (readAnswer src lent ≡ Reading.Order (record { t = t; s = s; number = n; consumed = bytes })) × (readLeft src lent ≡ b ++ drop (t + s) lent)
 says-all t s b rest lent h {src} u =
     let v = u .accepted (length lent) h in (
@@ -185,7 +185,7 @@ says-all t s b rest lent h {src} u =
     )
 
 module _ (kind t s : ℕ) (b out rest lent : List ℕ) where
-  pub written-read : judge (writeRows kind t s b out) ≡ Verdict.Accepted → largest + largest ≤ length lent
+  pub written-read : judge (writeRows kind t s b out) ≡ Verdict.Accepted → mostBeats ≤ length lent
       → (readAnswer (recordOf kind t s b ++ rest) lent ≡ Reading.Order (record { t = t; s = s; number = numberOf t s b; consumed = length (recordOf kind t s b) }))
       × (readLeft (recordOf kind t s b ++ rest) lent ≡ b ++ drop (t + s) lent)
   written-read e h =
@@ -273,7 +273,7 @@ one-record src dst f g room e h k t s b =
     ∙ read-written dst g room h
 
 -- the records of a form in the two kinds mean the same
-pub kinds-agree : (t s : ℕ) (b rest lent : List ℕ) → Allowed t s → Schedule t s b → largest + largest ≤ length lent
+pub kinds-agree : (t s : ℕ) (b rest lent : List ℕ) → Allowed t s → Schedule t s b → mostBeats ≤ length lent
     → (said.t (readAnswer (recordOf 1 t s b ++ rest) lent) ≡ said.t (readAnswer (recordOf 2 t s b ++ rest) lent))
     × (said.s (readAnswer (recordOf 1 t s b ++ rest) lent) ≡ said.s (readAnswer (recordOf 2 t s b ++ rest) lent))
     × (said.number (readAnswer (recordOf 1 t s b ++ rest) lent) ≡ said.number (readAnswer (recordOf 2 t s b ++ rest) lent))

@@ -3,20 +3,20 @@
 --     told-verdict         an answer has the verdict that it was made from
 --     told-refused, told-why, told-accepted     the answer of a verdict that is known
 --     late-counts, late-number, late-check     refusals after which the record's bytes are consumed
---     left-refused, left-accepted     what is left by a verdict that is known
 --     form-number          a form of a number in exactly its room is refused as the number is
 --     hand-checked         beats that are zeros and ones, of the right length and of allowed counts, are refused by 5 and 6 only
 --     spoiled-bits, spoiled-not       the row for kind 2's L and unused bits
 --     unpacked-beats       unpacked beats are zeros and ones
 -- Assumes nothing.
 use mathlib.Core.Bool.{Bool, true, false, not}
-use mathlib.Core.List.{List, [], _∷_, _++_}
+use mathlib.Core.List.{List, [], _∷_}
 use mathlib.Core.Path.{_≡_, refl, sym, _∙_, ap, subst}
 use Prim.Native.Nat.{ℕ, _+_, _≤_, _<_}
 use native.Mathlib.Omega.{arith}
 use borrow.Author.Tests.{eq-eqb, ne-eqb, le-ltb}
 use lib.Dec.{eqb}
-use lib.ListN.{length, getD, take, drop, take-append-drop}
+use lib.ListN.{length, getD}
+use Rattle.form.specs.Answers.{numberRows, formRows}
 use Rattle.refusal.specs.declared.Refusal.{Refusal}
 use Rattle.refusal.specs.declared.Refusal.the-variants.{WrongSize, WrongLength, BadBeat}
 use Rattle.refusal.specs.declared.Verdict.{Verdict}
@@ -26,9 +26,7 @@ use Rattle.counts.specs.Counts.{Allowed, countRows}
 use Rattle.counts.proofs.Sizes.{allowed-counts}
 use Rattle.schedule.specs.Check.{badBeat, handRows, playRows, beatRows, checkRows, checked}
 use Rattle.schedule.proofs.Reflect.{no-bad-passed}
-use Rattle.circle.specs.Answers.{left}
-use Rattle.number.specs.Answers.{numberRows, formRows}
-use Rattle.number.proofs.Verdicts.{form-refused, form-taken}
+use Rattle.form.proofs.Verdicts.{form-refused, form-taken}
 use Rattle.record.specs.Bytes.{bytesFor, beatAt, unpacked, unused}
 use Rattle.record.specs.Record.{beaten, bodyRows, eaten}
 use Rattle.record.proofs.Packing.{length-tabulate, getD-tabulate}
@@ -70,20 +68,9 @@ module _ {v : Verdict} {why : Refusal} (e : v ≡ Verdict.Refused why) where
   pub told-why : (t s n l m : ℕ) → m ≡ eaten why l → Reading.Refused why m ≡ told t s n l v
   told-why t s n l m h = ap (Reading.Refused why) h ∙ ap (told t s n l) (sym e)
 
-  pub left-refused : (done lent : List ℕ) → lent ≡ left v done lent
-  left-refused done lent = ap (λ (w : Verdict). left w done lent) (sym e)
-
 module _ {v : Verdict} (e : v ≡ Verdict.Accepted) where
   pub told-accepted : (t s n l : ℕ) → told t s n l Verdict.Accepted ≡ told t s n l v
   told-accepted t s n l = ap (told t s n l) (sym e)
-
-  pub left-accepted : (done lent : List ℕ) → done ≡ left v done lent
-  left-accepted done lent = ap (λ (w : Verdict). left w done lent) (sym e)
-
--- the part of a list that was lent, and the rest behind it
-pub left-part : (v : Verdict) (n : ℕ) (done lent : List ℕ) → left v done (take n lent) ++ drop n lent ≡ left v (done ++ drop n lent) lent
-left-part Verdict.Accepted n done lent = refl
-left-part (Verdict.Refused why) n done lent = take-append-drop n lent
 
 pub form-number : (t s n : ℕ) (out : List ℕ) → length out ≡ t + s → judge (formRows t s n out) ≡ judge (numberRows t s n)
 form-number t s n out h = by (judge (numberRows t s n)) refl

@@ -10,10 +10,10 @@ use mathlib.Core.List.{List, _++_}
 use mathlib.Core.Path.{_≡_}
 use Prim.Native.Nat.{ℕ, _+_, _≤_}
 use lib.ListN.{length, drop}
+use Rattle.refusal.specs.Answer.{left}
 use Rattle.refusal.specs.declared.Verdict.{Verdict}
 use Rattle.refusal.specs.Order.{judge}
-use Rattle.triangle.specs.Count.{largest}
-use Rattle.circle.specs.Answers.{left}
+use Rattle.triangle.specs.Count.{mostBeats}
 use Rattle.record.specs.Record.{Kind, long, kindIn, ups, downs, body, cut, meant, meantNumber, readRows, eaten}
 use Rattle.order.specs.declared.Reading.{Reading}
 
@@ -38,4 +38,4 @@ pub record Whole (src : List ℕ) (l : ℕ) (out : List ℕ) : Type 0 where
   pub said : l ≡ long src
   pub here : cut src ≡ false
   pub kind : 2 ≤ l
-  pub room : largest + largest ≤ length out
+  pub room : mostBeats ≤ length out

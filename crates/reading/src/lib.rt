@@ -29,7 +29,7 @@ pub fn read_by(rows: &[[u64; SIDE]], src: &[u8], out: &mut [u8]) -> Reading
     ensures { λ r. ⌜ r ≡ readAnswer (now (src .entry)) (now (out .entry)) ⌝ }
     ensures { λ _. ⌜ now (out .exit) ≡ readLeft (now (src .entry)) (now (out .entry)) ⌝ }
 {
-    if out.len() < reads::ROOM {
+    if out.len() < triangle::BEATS {
         return Reading::Refused(Refusal::NoRoom, 0);
     }
     if reads::is_cut(src) {

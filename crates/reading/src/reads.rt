@@ -4,13 +4,13 @@ ghost use mathlib.Core.Path.{_≡_};
 ghost use mathlib.Core.List.{_++_};
 ghost use Prim.Native.Nat.{_+_, _≤_};
 ghost use lib.ListN.{length, take, drop};
+ghost use Rattle.form.specs.Answers.{numberRows};
+ghost use Rattle.refusal.specs.Answer.{left};
 ghost use Rattle.refusal.specs.Order.{judge};
-ghost use Rattle.triangle.specs.Count.{largest};
+ghost use Rattle.triangle.specs.Count.{mostBeats};
 ghost use Rattle.lookup.specs.Lent.{Counts};
 ghost use Rattle.counts.specs.Counts.{Allowed, countRows};
-ghost use Rattle.circle.specs.Answers.{left};
 ghost use Rattle.number.specs.Number.{numberOf, formOf};
-ghost use Rattle.number.specs.Answers.{numberRows};
 ghost use Rattle.record.specs.Bytes.{bytesFor, valueOf, unpacked};
 ghost use Rattle.record.specs.Bytes as beats;
 ghost use Rattle.record.specs.Record.{longest, cut, bodyRows, kindRows};
@@ -23,10 +23,8 @@ use record::pack;
 use refusal::Answer;
 use refusal::Refusal;
 use refusal::Verdict;
+use schedule::wide;
 use triangle::SIDE;
-
-// The places that a slice for schedules must have.
-pub const ROOM: usize = 2 * triangle::LARGEST as usize;
 
 // The most bytes that a record has after its length.
 pub const LONGEST: u64 = 1020;
@@ -61,15 +59,9 @@ pub fn kind(src: &[u8]) -> u64
     little::value(&src[2..4])
 }
 
-fn wide(byte: u8) -> u64
-    ensures { λ r. ⌜ r ≡ byte ⌝ }
-{
-    byte as u64
-}
-
 // The form of a number, where its counts are allowed and have it.
 fn formed(rows: &[[u64; SIDE]], t: u64, s: u64, number: u64, long: u64, out: &mut [u8]) -> Reading
-    requires { ⌜ Counts (now rows) × (long ≤ longest) × (largest + largest ≤ length (now out)) ⌝ }
+    requires { ⌜ Counts (now rows) × (long ≤ longest) × (mostBeats ≤ length (now out)) ⌝ }
     ensures { λ r. ⌜ r ≡ told t s number long (judge (numberRows t s number)) ⌝ }
     ensures { λ _. ⌜ now (out .exit) ≡ left (judge (numberRows t s number)) (formOf t s number ++ drop (t + s) (now (out .entry))) (now (out .entry)) ⌝ }
 {
@@ -147,7 +139,7 @@ fn unpacked(
     packed: &[u8],
     out: &mut [u8],
 ) -> Reading
-    requires { ⌜ Counts (now rows) × (long ≤ longest) × (length (now packed) + 4 ≡ long) × (largest + largest ≤ length (now out)) ⌝ }
+    requires { ⌜ Counts (now rows) × (long ≤ longest) × (length (now packed) + 4 ≡ long) × (mostBeats ≤ length (now out)) ⌝ }
     ensures { λ r. ⌜ r ≡ told t s (numberOf t s (beats.unpacked (t + s) (now (packed .entry)))) long (judge (countRows t s ++ bodyRows part.beaten t s long (now (packed .entry)))) ⌝ }
     ensures { λ _. ⌜ now (out .exit) ≡ left (judge (countRows t s ++ bodyRows part.beaten t s long (now (packed .entry)))) (beats.unpacked (t + s) (now (packed .entry)) ++ drop (t + s) (now (out .entry))) (now (out .entry)) ⌝ }
 {
@@ -159,7 +151,7 @@ fn unpacked(
             if packed.len() != pack::bytes_for(n) {
                 return Reading::Refused(Refusal::WrongSize, 2 + long);
             }
-            let mut room = [0u8; ROOM];
+            let mut room = [0u8; triangle::BEATS];
             spread(rows, t, s, long, packed, &mut room[..n], &mut out[..n])
         }
     }

@@ -25,13 +25,12 @@ use Rattle.refusal.specs.declared.Answer.{Answer}
 use Rattle.refusal.specs.declared.Refusal.{Refusal}
 use Rattle.refusal.specs.declared.Refusal.the-variants.{NoSuchNumber, CutShort, UnknownKind, WrongSize, NoRoom}
 use Rattle.refusal.specs.declared.Verdict.{Verdict}
-use Rattle.refusal.specs.Answer.{answer}
+use Rattle.refusal.specs.Answer.{answer, left}
 use Rattle.refusal.specs.Refusal as refusal
 use Rattle.refusal.specs.Order.{Row, _⇒_, judge}
-use Rattle.triangle.specs.Count.{N, largest}
+use Rattle.triangle.specs.Count.{N, mostBeats}
 use Rattle.counts.specs.Counts.{countRows}
 use Rattle.schedule.specs.Check.{handRows, checkRows}
-use Rattle.circle.specs.Answers.{left}
 use Rattle.number.specs.Number.{numberOf, formOf}
 use Rattle.record.specs.Bytes.{lowFirst, valueOf, packed, unpacked, unused, bytesFor}
 
@@ -131,7 +130,7 @@ bodyRows unknown t s l p = []
 -- the refusals before the kind is known, and those of a kind
 abbrev pub headRows : ℕ → List ℕ → List Row
 headRows room src =
-    (ltb room (largest + largest) ⇒ NoRoom) ∷
+    (ltb room mostBeats ⇒ NoRoom) ∷
     (cut src ⇒ CutShort) ∷
     (ltb (long src) 2 ⇒ WrongSize) ∷
     (isUnknown (kindIn src) ⇒ UnknownKind) ∷ []

@@ -4,12 +4,7 @@ ghost use mathlib.Core.Path.{_≡_};
 ghost use Prim.Native.Nat.{_≤_};
 ghost use lib.ListN.{length};
 ghost use Rattle.record.specs.Bytes.{valueOf, lowFirst};
-
-fn wide(byte: u8) -> u64
-    ensures { λ r. ⌜ r ≡ byte ⌝ }
-{
-    byte as u64
-}
+use schedule::wide;
 
 // The number whose bytes these are.
 pub fn value(src: &[u8]) -> u64

@@ -8,7 +8,7 @@ use Rattle.refusal.specs.declared.Answer.{Answer}
 use Rattle.refusal.specs.declared.Refusal.the-variants.{TooManyTasks, MoreDownThanUp, WrongLength, BadBeat, EmptyHand, RunTooLong}
 use Rattle.refusal.specs.declared.Verdict.{Verdict}
 use Rattle.refusal.specs.Refusal.{numberOf, placeOf}
-use Rattle.refusal.specs.Answer.{refusal, place, verdict, value, answer}
+use Rattle.refusal.specs.Answer.{refusal, place, verdict, value, answer, left}
 use Rattle.refusal.specs.Order.{Row, _⇒_, judge, test}
 use Rattle.refusal.proofs.Theorems.{Given, refused-given, given-refused}
 
@@ -80,3 +80,10 @@ given-second = refused-given rows MoreDownThanUp judged-second
 
 not-given-third : Given rows WrongLength → ⊥
 not-given-third g = omega (arith, ap refusal (sym judged-second ∙ given-refused rows WrongLength g))
+
+-- what a call leaves: its work; refused, what was lent
+leaves-work : left Verdict.Accepted (1 ∷ []) (0 ∷ []) ≡ 1 ∷ []
+leaves-work = refl
+
+leaves-lent : left (Verdict.Refused WrongLength) (1 ∷ []) (0 ∷ []) ≡ 0 ∷ []
+leaves-lent = refl

@@ -1,3 +1,4 @@
 pub mod Order
+pub mod Left
 pub mod Theorems
 pub mod Cases

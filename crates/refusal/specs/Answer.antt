@@ -3,6 +3,8 @@
 --     verdict            of an answer: whether the call was accepted
 --     value              of an answer: its number; 0 after a refusal [R7]
 --     answer             the answer of a call that would give n, by the verdict on its input
+--     left               what a call leaves in what was lent to it: its work, or, refused, what was there
+use mathlib.Core.List.{List}
 use Prim.Native.Nat.{ℕ}
 use Rattle.refusal.specs.declared.Answer.{Answer}
 use Rattle.refusal.specs.declared.Verdict.{Verdict}
@@ -27,3 +29,7 @@ value (Answer.Refused why) = 0
 abbrev pub answer : Verdict → ℕ → Answer
 answer Verdict.Accepted n = Answer.Value n
 answer (Verdict.Refused why) n = Answer.Refused why
+
+abbrev pub left : Verdict → List ℕ → List ℕ → List ℕ
+left Verdict.Accepted done lent = done
+left (Verdict.Refused why) done lent = lent

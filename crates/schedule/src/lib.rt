@@ -110,3 +110,10 @@ pub fn check(t: u64, s: u64, beats: &[u8]) -> Verdict
         Verdict::Accepted => check_beats(t, s, beats),
     }
 }
+
+// A beat, or a byte, as a number.
+pub fn wide(byte: u8) -> u64
+    ensures { λ r. ⌜ r ≡ byte ⌝ }
+{
+    byte as u64
+}

@@ -3,6 +3,7 @@
 // proved safe and ending.
 use refusal::Answer;
 use refusal::Verdict;
+use schedule::wide;
 
 pub fn text(bytes: &[u8]) {
     io::write_all(1, bytes);
@@ -11,11 +12,6 @@ pub fn text(bytes: &[u8]) {
 // A number in decimal.
 pub fn number(n: u64) {
     io::print_decimal(1, n);
-}
-
-// A beat as a number.
-fn wide(beat: u8) -> u64 {
-    beat as u64
 }
 
 // A beat as a digit, or in brackets where it has more than one.

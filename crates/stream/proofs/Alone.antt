@@ -16,13 +16,13 @@ use borrow.Author.Tests.{le-ltb}
 use lib.Dec.{eqb}
 use lib.ListN.{length, take, drop, length-append, length-drop, List·getD-append}
 use lib.Seq.{take-append-le, drop-append-le}
+use Rattle.form.specs.Answers.{numberRows}
 use Rattle.refusal.specs.declared.Refusal.{Refusal}
 use Rattle.refusal.specs.declared.Verdict.{Verdict}
 use Rattle.refusal.specs.Refusal.{numberOf}
 use Rattle.refusal.specs.Order.{judge}
-use Rattle.triangle.specs.Count.{largest}
+use Rattle.triangle.specs.Count.{mostBeats}
 use Rattle.counts.specs.Counts.{countRows}
-use Rattle.number.specs.Answers.{numberRows}
 use Rattle.record.specs.Bytes.{valueOf}
 use Rattle.record.specs.Record.{Kind, numbered, beaten, unknown, kindOf, isUnknown, long, longest, kindIn, ups, downs, body, bodyRows, cut, kindRows, eaten}
 use Rattle.reading.proofs.Heads.{cut-above, cut-rest, whole-long}
@@ -46,18 +46,18 @@ kind-goes unknown src u e = absurd (true≢false u)
 
 module _ (src : List ℕ) where
   pub cut-ends : cut src ≡ true → (ends src ≡ true) × (passed src ≡ 0)
-  cut-ends e = let refused = read-cut (largest + largest) src (omega arith) e in (ap ending refused, ap (passing src) refused)
+  cut-ends e = let refused = read-cut mostBeats src (omega arith) e in (ap ending refused, ap (passing src) refused)
 
   module _ (e : cut src ≡ false) where
     refused-goes : {why : Refusal} → verdictOn src ≡ Verdict.Refused why → Goes why
-    refused-goes {why} r = elim (decLt (long src) 2) [ yes l ↦ this (λ m. refl, refl) (read-tiny (largest + largest) src (omega arith) e l) | no l ↦ by (omega arith) (isUnknown (kindIn src)) refl ]
+    refused-goes {why} r = elim (decLt (long src) 2) [ yes l ↦ this (λ m. refl, refl) (read-tiny mostBeats src (omega arith) e l) | no l ↦ by (omega arith) (isUnknown (kindIn src)) refl ]
       where
         this : {first : Refusal} → Goes first → verdictOn src ≡ Verdict.Refused first → Goes why
         this {first} goes q = let same : first ≡ why = cc in subst Goes same goes
 
         by : 2 ≤ long src → (b : Bool) → isUnknown (kindIn src) ≡ b → Goes why
-        by l true u = this (λ m. refl, refl) (read-unknown (largest + largest) src (omega arith) e l u)
-        by l false u = kind-goes (kindIn src) src u (sym (read-kind (largest + largest) src (omega arith) e l u) ∙ r)
+        by l true u = this (λ m. refl, refl) (read-unknown mostBeats src (omega arith) e l u)
+        by l false u = kind-goes (kindIn src) src u (sym (read-kind mostBeats src (omega arith) e l u) ∙ r)
 
     pub whole-goes : (ends src ≡ false) × (passed src ≡ 2 + long src)
     whole-goes = by (verdictOn src) refl
@@ -126,26 +126,26 @@ module _ (src more : List ℕ) where
 
     whole-alone : verdictOn both ≡ verdictOn src
     whole-alone = elim (decLt (long src) 2) [
-      | yes l ↦ read-tiny (largest + largest) both (omega arith) both-whole (omega (arith, l, same-long)) ∙ sym (read-tiny (largest + largest) src (omega arith) here l)
+      | yes l ↦ read-tiny mostBeats both (omega arith) both-whole (omega (arith, l, same-long)) ∙ sym (read-tiny mostBeats src (omega arith) here l)
       | no l ↦ by (omega arith) (isUnknown (kindIn src)) refl
     ]
       where
         by : 2 ≤ long src → (b : Bool) → isUnknown (kindIn src) ≡ b → verdictOn both ≡ verdictOn src
         by l true u =
-            read-unknown (largest + largest) both (omega arith) both-whole (omega (arith, same-long)) (ap isUnknown (kind-same (omega (arith, whole))) ∙ u)
-            ∙ sym (read-unknown (largest + largest) src (omega arith) here l u)
+            read-unknown mostBeats both (omega arith) both-whole (omega (arith, same-long)) (ap isUnknown (kind-same (omega (arith, whole))) ∙ u)
+            ∙ sym (read-unknown mostBeats src (omega arith) here l u)
         by l false u =
-            read-kind (largest + largest) both (omega arith) both-whole (omega (arith, same-long)) (ap isUnknown (kind-same (omega (arith, whole))) ∙ u)
+            read-kind mostBeats both (omega arith) both-whole (omega (arith, same-long)) (ap isUnknown (kind-same (omega (arith, whole))) ∙ u)
             ∙ ap (λ (k : Kind). judge (kindRows k both)) (kind-same (omega (arith, whole)))
             ∙ rows-alone (kindIn src) u
-            ∙ sym (read-kind (largest + largest) src (omega arith) here l u)
+            ∙ sym (read-kind mostBeats src (omega arith) here l u)
 
   module _ (e : settled src ≡ true) where
     above-alone : longest < long src → verdictOn both ≡ verdictOn src
     above-alone h =
         let two = settled-whole src e .0 in
-        read-cut (largest + largest) both (omega arith) (sym (cut-above both (omega (arith, longer)) (omega (arith, h, long-same two))))
-        ∙ sym (read-cut (largest + largest) src (omega arith) (sym (cut-above src two h)))
+        read-cut mostBeats both (omega arith) (sym (cut-above both (omega (arith, longer)) (omega (arith, h, long-same two))))
+        ∙ sym (read-cut mostBeats src (omega arith) (sym (cut-above src two h)))
 
     pub verdict-alone : verdictOn both ≡ verdictOn src
     verdict-alone = elim (decLt longest (long src)) [
@@ -166,12 +166,12 @@ module _ (src more : List ℕ) where
   parts-alone r = (kind-same (omega (arith, four, reaches)), ups-same four reaches, downs-same four reaches, body-same four reaches)
     where
       reaches : 2 + long src ≤ length src
-      reaches = whole-long src (read-facts (largest + largest) src r .1) .1
+      reaches = whole-long src (read-facts mostBeats src r .1) .1
 
       by : (k : Kind) → kindIn src ≡ k → 4 ≤ long src
-      by numbered f = omega (arith, numbered-facts src (ap (λ (j : Kind). judge (kindRows j src)) (sym f) ∙ read-facts (largest + largest) src r .4) .0)
-      by beaten f = beaten-facts src (ap (λ (j : Kind). judge (kindRows j src)) (sym f) ∙ read-facts (largest + largest) src r .4) .four
-      by unknown f = absurd (true≢false (ap isUnknown (sym f) ∙ read-facts (largest + largest) src r .3))
+      by numbered f = omega (arith, numbered-facts src (ap (λ (j : Kind). judge (kindRows j src)) (sym f) ∙ read-facts mostBeats src r .4) .0)
+      by beaten f = beaten-facts src (ap (λ (j : Kind). judge (kindRows j src)) (sym f) ∙ read-facts mostBeats src r .4) .four
+      by unknown f = absurd (true≢false (ap isUnknown (sym f) ∙ read-facts mostBeats src r .3))
 
       four : 4 ≤ long src
       four = by (kindIn src) refl

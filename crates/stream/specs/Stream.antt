@@ -20,12 +20,12 @@ use lib.ListN.{length, drop}
 use Rattle.refusal.specs.declared.Verdict.{Verdict}
 use Rattle.refusal.specs.Refusal.{numberOf}
 use Rattle.refusal.specs.Order.{judge}
-use Rattle.triangle.specs.Count.{largest}
+use Rattle.triangle.specs.Count.{mostBeats}
 use Rattle.record.specs.Record.{long, longest, readRows, eaten}
 use Rattle.stream.specs.declared.Front.{Front}
 
 abbrev pub verdictOn : List ℕ → Verdict
-verdictOn src = judge (readRows (largest + largest) src)
+verdictOn src = judge (readRows mostBeats src)
 
 abbrev pub passing : List ℕ → Verdict → ℕ
 passing src Verdict.Accepted = 2 + long src

@@ -11,9 +11,6 @@ ghost use Rattle.tree.specs.Planting.{adopted};
 use refusal::Refusal;
 use refusal::Verdict;
 
-// A node for each task, and a place for one leaf more.
-const ROOM: usize = triangle::LARGEST as usize + 1;
-
 // Makes the node the parent of a child; 0 is a leaf, and has none.
 fn adopt(parent: &mut [u8], child: u8, node: u8)
     requires { ⌜ child ≤ length (now parent) ⌝ }
@@ -43,7 +40,8 @@ fn fill(beats: &[u8], left: &mut [u8], right: &mut [u8], parent: &mut [u8])
     requires { ⌜ (length (now left) ≤ largest) × (length (now right) ≡ length (now left)) × (length (now parent) ≡ length (now left)) × Schedule (length (now left)) (length (now left)) (now beats) ⌝ }
     ensures { λ r. ⌜ Has (length (now (left .entry))) (now (beats .entry)) (now (left .exit)) (now (right .exit)) (now (parent .exit)) ⌝ }
 {
-    let mut stack = [0u8; ROOM];
+    // a place for each node, and for one leaf more
+    let mut stack = [0u8; triangle::SIDE];
     let mut depth: usize = 1;
     let mut row = left.len();
     let mut at = beats.len();

@@ -12,11 +12,6 @@ ghost use Rattle.tree_back.specs.Tracing.{rootNumber, isNext, Traced};
 use refusal::Refusal;
 use refusal::Verdict;
 
-// A place for each node, and one more.
-const ROOM: usize = triangle::LARGEST as usize + 1;
-
-const BEATS: usize = 2 * triangle::LARGEST as usize;
-
 // The root of a tree of n nodes, 0 where there is none.
 fn root(n: usize) -> u8
     ensures { λ r. ⌜ r ≡ rootNumber n ⌝ }
@@ -44,7 +39,8 @@ fn trace(left: &[u8], right: &[u8], parent: &[u8], beats: &mut [u8]) -> bool
     requires { ⌜ (length (now left) ≤ largest) × (length (now right) ≡ length (now left)) × (length (now parent) ≡ length (now left)) × (length (now beats) ≡ length (now left) + length (now left)) ⌝ }
     ensures { λ r. ⌜ Traced (length (now (left .entry))) (now (left .entry)) (now (right .entry)) (now (parent .entry)) (now (beats .exit)) r ⌝ }
 {
-    let mut stack = [0u8; ROOM];
+    // a place for each node, and one more
+    let mut stack = [0u8; triangle::SIDE];
     let mut depth: usize = 0;
     let mut row: usize = 0;
     let mut own: u8 = 0;
@@ -100,7 +96,7 @@ pub fn schedule_of_tree(n: u64, left: &[u8], right: &[u8], parent: &[u8], out: &
         Verdict::Refused(why) => Verdict::Refused(why),
         Verdict::Accepted => {
             let long = out.len();
-            let mut room = [0u8; BEATS];
+            let mut room = [0u8; triangle::BEATS];
             rebuild(left, right, parent, &mut room[..long], out)
         }
     }

@@ -14,6 +14,9 @@ pub const LARGEST: u64 = table::LARGEST;
 // The rows of the table, and the counts of a row: one for each number of tasks.
 pub const SIDE: usize = LARGEST as usize + 1;
 
+// The beats of the longest schedule.
+pub const BEATS: usize = 2 * LARGEST as usize;
+
 // The table of counts, a row for each t, for a program that makes it once and lends it on.
 pub fn rows() -> [[u64; SIDE]; SIDE]
     ensures { λ r. ⌜ r ≡ table ⌝ }

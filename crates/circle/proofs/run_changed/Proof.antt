@@ -2,7 +2,7 @@
 -- Every schedule fits the room. Assumes nothing.
 use mathlib.Core.List.{List}
 use mathlib.Core.Path.{_≡_, _∙_, ap, sym}
-use Prim.Native.Nat.{ℕ, _+_, _≤_}
+use Prim.Native.Nat.{ℕ, _≤_}
 use native.Mathlib.Omega.{arith}
 use borrow.Author.Needs.{needs}
 use lib.ListN.{length}
@@ -11,7 +11,7 @@ use Rattle.refusal.specs.declared.Answer.{Answer}
 use Rattle.refusal.specs.declared.Verdict.{Verdict}
 use Rattle.refusal.specs.Answer.{answer}
 use Rattle.refusal.specs.Order.{judge}
-use Rattle.triangle.specs.Count.{largest}
+use Rattle.triangle.specs.Count.{mostBeats}
 use Rattle.schedule.specs.Check.{checked}
 use Rattle.schedule.proofs.Theorems.{accepted-schedule}
 use Rattle.circle.specs.Walk.{worked}
@@ -49,7 +49,7 @@ module _ (c : tie.After-enum-told) where
   allowed : (checked t s beats ≡ Verdict.Accepted) × (start .args .k ≤ longest)
   allowed = run-allowed t s beats (start .args .k) accepted
 
-  fits : length beats ≤ largest + largest
+  fits : length beats ≤ mostBeats
   fits =
       let right = accepted-schedule t s beats (allowed .0) in
       omega (arith, right .0 .0, right .0 .1, right .1 .size)

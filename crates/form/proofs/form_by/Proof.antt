@@ -5,12 +5,13 @@ use mathlib.Core.Path.{_≡_, _∙_, sym}
 use Prim.Native.Nat.{ℕ, _≤_, _<_}
 use native.Mathlib.Omega.{arith}
 use borrow.Author.Needs.{needs}
+use Rattle.form.specs.Answers.{numberRows}
+use Rattle.refusal.proofs.Left.{accepted-left, refused-left}
 use Rattle.refusal.specs.declared.Verdict.{Verdict}
 use Rattle.refusal.specs.Order.{judge}
 use Rattle.triangle.specs.Count.{N, largest}
-use Rattle.number.specs.Answers.{numberRows}
 use Rattle.number.specs.Number.{formOf}
-use Rattle.number.proofs.Verdicts.{number-allowed, form-refused, form-long, form-taken, refused-left, accepted-left}
+use Rattle.form.proofs.Verdicts.{number-allowed, form-refused, form-long, form-taken}
 use Rattle.form.proofs.form_by.Statement.{statement}
 use Rattle.form.proofs.form_by.Tie as tie
 

@@ -6,14 +6,15 @@ use Prim.Native.Nat.{ℕ, _+_, _≤_, _<_}
 use native.Mathlib.Omega.{arith}
 use borrow.Author.Needs.{needs}
 use lib.ListN.{length}
+use Rattle.form.specs.Answers.{numberRows, sheetRows, onSheet}
+use Rattle.refusal.proofs.Left.{accepted-left, refused-left}
 use Rattle.refusal.specs.declared.Refusal.the-variants.{NoRoom}
 use Rattle.refusal.specs.declared.Verdict.{Verdict}
 use Rattle.refusal.specs.Order.{judge}
 use Rattle.triangle.specs.Count.{N, largest}
-use Rattle.number.specs.Answers.{numberRows, sheetRows, onSheet}
 use Rattle.number.specs.Number.{formOf}
 use Rattle.number.proofs.Numbers.{form-schedule}
-use Rattle.number.proofs.Verdicts.{number-allowed, sheet-refused, sheet-short, sheet-taken, refused-left, accepted-left, on-part}
+use Rattle.form.proofs.Verdicts.{number-allowed, sheet-refused, sheet-short, sheet-taken, on-part}
 use Rattle.form.proofs.form_on_sheet.Statement.{statement}
 use Rattle.form.proofs.form_on_sheet.Tie as tie
 

@@ -6,7 +6,7 @@ use Rattle.refusal.specs.declared.Verdict.{Verdict}
 use Rattle.refusal.specs.Order.{judge}
 use Rattle.counts.specs.Counts.{countRows}
 use Rattle.counts.proofs.Sizes.{counts-allowed}
-use Rattle.number.proofs.Verdicts.{number-refused, number-beyond, number-taken}
+use Rattle.form.proofs.Verdicts.{number-refused, number-beyond, number-taken}
 use Rattle.form.proofs.numbered.Statement.{statement}
 use Rattle.form.proofs.numbered.Tie as tie
 

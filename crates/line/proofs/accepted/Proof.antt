@@ -4,7 +4,8 @@ use mathlib.Core.Path.{_≡_, _∙_}
 use Prim.Native.Nat.{_≤_, _<_}
 use native.Mathlib.Omega.{arith}
 use lib.ListN.{length}
-use Rattle.line.proofs.Writing.{field-fits, text-fits, written-accepted}
+use Rattle.text.proofs.Writing.{field-fits}
+use Rattle.line.proofs.Writing.{text-fits, written-accepted}
 use borrow.Author.Needs.{needs}
 use Rattle.line.proofs.accepted.Statement.{statement}
 use Rattle.line.proofs.accepted.Tie as tie

@@ -1,10 +1,11 @@
--- `line::refused` meets its contract: each part of the line is written behind the one before. Assumes nothing.
+-- `line::refused` meets its contract: each part of the line is written after the one before. Assumes nothing.
 use mathlib.Core.Path.{_≡_, _∙_}
 use Prim.Native.Nat.{_≤_}
 use native.Mathlib.Omega.{arith}
 use lib.ListN.{length}
-use Rattle.line.proofs.Digits.{digits-fit}
-use Rattle.line.proofs.Writing.{field-fits, written-refused}
+use Rattle.text.proofs.Writing.{field-fits}
+use Rattle.text.proofs.Digits.{digits-fit}
+use Rattle.line.proofs.Writing.{written-refused}
 use borrow.Author.Needs.{needs}
 use Rattle.line.proofs.refused.Statement.{statement}
 use Rattle.line.proofs.refused.Tie as tie
@@ -13,18 +14,24 @@ use Rattle.line.proofs.refused.Tie as tie
 abbrev before-word : tie.After-copy → tie.Start
 before-word c = c .before .before .before .before
 
+abbrev numbered : tie.After-field → tie.After-number
+numbered c = c .before .before
+
 abbrev before-number : tie.After-field → tie.After-copy
-before-number c = c .before .before .before .before
+before-number c = numbered c .before .before .before
+
+abbrev placed : tie.After-decimal → tie.After-place
+placed c = c .before .before
 
 abbrev before-place : tie.After-decimal → tie.After-field
-before-place c = c .before .before .before .before
+before-place c = placed c .before .before .before
 
 -- where the number ends, and that out is as long as it was
 past-number : (c : tie.After-field) → let start = before-word (before-number c) in
     (c .field .result ≤ 29) × (length (c .field .last .1 .0) ≡ length (start .args .out .now))
 past-number c =
     let first = before-number c in
-    let few = field-fits (before-word first .args .number) (search needs) in (
+    let few = field-fits (numbered c .number .result) (search needs) in (
       omega (arith, c .field .ensures .end, first .copy .ensures .0, few),
       c .field .kept .1 .0 ∙ first .copy .kept .1 .0,
     )
@@ -35,12 +42,18 @@ slice-aggregate-copy c = search needs
 copy-requires : tie.Need-copy-requires
 copy-requires c κs = search needs
 
+number-requires : tie.Need-number-requires
+number-requires c κs = search needs
+
 field-requires : tie.Need-field-requires
 field-requires c κs = search needs
 
+place-requires : tie.Need-place-requires
+place-requires c κs = search needs
+
 decimal-requires : tie.Need-decimal-requires
 decimal-requires c κs =
-    let second = c .before .before .before in
+    let second = c .before .before .before .before in
     omega (arith, past-number second, before-word (before-number second) .pre)
 
 put-requires : tie.Need-put-requires
@@ -53,7 +66,7 @@ put-requires c κs =
       third .decimal .ensures .end,
       third .decimal .kept .1 .0,
       past-number second,
-      digits-fit (start .args .place) (search needs),
+      digits-fit (placed third .place .result) (search needs),
       start .pre,
     )
 
@@ -66,8 +79,8 @@ returns c =
     let third = fourth .before .before .before .before in
     let second = before-place third in
     let first = before-number second in
-    let args = before-word first .args in
-    written-refused (args .number) (args .place) (record { text = first .copy .ensures .1; end = first .copy .ensures .0 })
+    written-refused (before-word first .args .why) (numbered second .number .ensures) (placed third .place .ensures)
+    (record { text = first .copy .ensures .1; end = first .copy .ensures .0 })
     (second .field .ensures) (third .decimal .ensures) (fourth .put .ensures)
 
 pub refused-spec : {M : Type 1} → statement M
@@ -76,7 +89,9 @@ refused-spec =
     (tie.spec
     slice-aggregate-copy
     copy-requires
+    number-requires
     field-requires
+    place-requires
     decimal-requires
     put-requires
     same-length

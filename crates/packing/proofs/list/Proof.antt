@@ -5,7 +5,7 @@ use Prim.Native.Nat.{ℕ, _+_, _≤_}
 use native.Mathlib.Omega.{arith}
 use lib.ListN.{length, take}
 use lib.Seq.{length-take-le}
-use Rattle.triangle.specs.Count.{largest}
+use Rattle.triangle.specs.Count.{largest, mostBeats}
 use Rattle.record.specs.Record.{kindIn, ups, downs, body, meant}
 use Rattle.order.specs.declared.Order.{Order}
 use Rattle.line.specs.Line.{Beats}
@@ -34,14 +34,14 @@ module _ (c : tie.After-struct-known) where
   says : Ordered src room (start .pre .1) order
   says = ordered src room (start .pre .1) order (sym (called .read-by .ensures .0) ∙ c .before .before .reading .given .1)
 
-  long : length (called .read-by .last .1 .1 .0) ≡ largest + largest
+  long : length (called .read-by .last .1 .1 .0) ≡ mostBeats
   long = called .read-by .kept .1 .1 .0 ∙ start .pre .1
 
   -- the part of the room that is lent on
   shown : take (order .t + order .s) (called .read-by .last .1 .1 .0) ≡ meant (kindIn src) (ups src) (downs src) (body src)
   shown = ap (take (order .t + order .s)) (called .read-by .ensures .1) ∙ says .in-room
 
-  few : (order .t ≤ largest) × (order .s ≤ order .t) × (length (called .read-by .last .1 .1 .0) ≡ largest + largest)
+  few : (order .t ≤ largest) × (order .s ≤ order .t) × (length (called .read-by .last .1 .1 .0) ≡ mostBeats)
   few = (says .few .0, says .few .1, long)
 
 read-by-requires : tie.Need-read-by-requires
@@ -75,9 +75,6 @@ enum-known-reading-2 c = search needs
 number-requires : tie.Need-number-requires
 number-requires c κs = search needs
 
-place-requires : tie.Need-place-requires
-place-requires c κs = search needs
-
 refused-requires : tie.Need-refused-requires
 refused-requires c κs = search needs
 
@@ -102,13 +99,12 @@ same-length-4 c = search needs
 returns-2 : tie.Need-returns-2
 returns-2 c =
     let writing = c .before .before in
-    let placing = writing .before .before in
-    let numbering = placing .before in
+    let numbering = writing .before .before in
     let known = numbering .before .before in
     let called = known .before .before .before .before in
     let start = called .before .before .before .before .before in
     let down = turned-down (start .args .src .now) (start .args .room .now) (start .pre .1) _ _ (sym (called .read-by .ensures .0) ∙ known .reading2 .given .1) in
-    list-refused (start .args .src .now) (start .args .out .now) _ (down .0) (down .1) (numbering .number .ensures) (placing .place .ensures) (writing .refused .ensures)
+    list-refused (start .args .src .now) (start .args .out .now) _ (down .0) (down .1) (numbering .number .ensures) (writing .refused .ensures)
 
 pub list-spec : {M : Type 1} → statement M
 list-spec =
@@ -122,7 +118,6 @@ list-spec =
     accepted-requires
     enum-known-reading-2
     number-requires
-    place-requires
     refused-requires
     same-length
     same-length-2

@@ -5,14 +5,15 @@ use mathlib.Core.Path.{_≡_, refl, _∙_, ap, sym}
 use Prim.Native.Nat.{ℕ, _+_, _≤_}
 use native.Mathlib.Omega.{arith}
 use lib.ListN.{length}
+use Rattle.refusal.proofs.Left.{left-refused}
 use Rattle.refusal.specs.declared.Verdict.{Verdict}
 use Rattle.refusal.specs.Order.{judge}
-use Rattle.triangle.specs.Count.{largest}
+use Rattle.triangle.specs.Count.{mostBeats}
 use Rattle.record.specs.Record.{Kind, numbered, beaten, kindOf, kindIn, isUnknown, long, cut, kindRows, readRows}
 use Rattle.record.proofs.Writing.{kind-other}
 use Rattle.reading.specs.Reading.{Whole, reading, leaving, readAnswer, readLeft}
 use Rattle.reading.proofs.Heads.{whole-long}
-use Rattle.reading.proofs.Verdicts.{told-why, left-refused}
+use Rattle.reading.proofs.Verdicts.{told-why}
 use Rattle.reading.proofs.Answering.{read-room, read-cut, read-tiny, read-unknown, read-kind}
 use borrow.Author.Needs.{needs}
 use Rattle.reading.proofs.read_by.Statement.{statement}
@@ -29,7 +30,7 @@ module _ (c : tie.Else1) where
   abbrev out : List ℕ
   out = start .args .out .now
 
-  roomy : largest + largest ≤ length out
+  roomy : mostBeats ≤ length out
   roomy = omega (arith, c .if1 .left)
 
 -- and the record is whole

@@ -5,11 +5,12 @@ use Prim.Native.Nat.{ℕ, _+_, _-_, _≤_}
 use native.Mathlib.Omega.{arith}
 use lib.ListN.{length, take, drop, length-drop}
 use lib.Seq.{length-take-le}
+use Rattle.refusal.proofs.Left.{left-refused}
 use Rattle.refusal.specs.declared.Refusal.the-variants.{WrongSize}
 use Rattle.record.specs.Record.{long, longest}
 use Rattle.order.specs.declared.Reading.{Reading}
 use Rattle.reading.proofs.Heads.{whole-long}
-use Rattle.reading.proofs.Verdicts.{told-refused, left-refused}
+use Rattle.reading.proofs.Verdicts.{told-refused}
 use Rattle.reading.proofs.Answering.{beaten-long, beaten-answer, beaten-left}
 use borrow.Author.Needs.{needs}
 use Rattle.reading.proofs.reads.beaten.Statement.{statement}

@@ -6,15 +6,16 @@ use Prim.Native.Nat.{ℕ, _+_, _≤_}
 use native.Mathlib.Omega.{arith}
 use lib.ListN.{length, take, drop}
 use lib.Seq.{length-take-le}
+use Rattle.form.specs.Answers.{numberRows, formRows}
+use Rattle.refusal.proofs.Left.{left-part, left-refused}
+use Rattle.refusal.specs.Answer.{left}
 use Rattle.refusal.specs.declared.Verdict.{Verdict}
 use Rattle.refusal.specs.Order.{judge}
-use Rattle.triangle.specs.Count.{largest}
+use Rattle.triangle.specs.Count.{largest, mostBeats}
 use Rattle.counts.proofs.Sizes.{counts-allowed}
-use Rattle.circle.specs.Answers.{left}
-use Rattle.number.specs.Answers.{numberRows, formRows}
 use Rattle.number.specs.Number.{formOf}
-use Rattle.number.proofs.Verdicts.{number-refused}
-use Rattle.reading.proofs.Verdicts.{late-counts, late-number, told-refused, told-accepted, left-refused, left-part, form-number}
+use Rattle.form.proofs.Verdicts.{number-refused}
+use Rattle.reading.proofs.Verdicts.{late-counts, late-number, told-refused, told-accepted, form-number}
 use borrow.Author.Needs.{needs}
 use Rattle.reading.proofs.reads.formed.Statement.{statement}
 use Rattle.reading.proofs.reads.formed.Tie as tie
@@ -36,7 +37,7 @@ module _ (c : tie.After-enum-told) where
   abbrev out : List ℕ
   out = start .args .out .now
 
-  few : (t ≤ largest) × (s ≤ t) × (largest + largest ≤ length out)
+  few : (t ≤ largest) × (s ≤ t) × (mostBeats ≤ length out)
   few =
       let allowed = counts-allowed t s (sym (c .before .before .allowed .ensures) ∙ c .enum-told .given .1) in
       (allowed .0, allowed .1, start .pre .2)

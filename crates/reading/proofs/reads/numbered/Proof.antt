@@ -4,12 +4,13 @@ use mathlib.Core.Path.{_≡_, refl, _∙_, ap}
 use Prim.Native.Nat.{ℕ, _+_, _-_, _≤_}
 use native.Mathlib.Omega.{arith}
 use lib.ListN.{length, take, drop}
+use Rattle.refusal.proofs.Left.{left-refused}
 use Rattle.refusal.specs.declared.Refusal.the-variants.{WrongSize}
 use Rattle.record.specs.Bytes.{valueOf}
 use Rattle.record.specs.Record.{long, longest}
 use Rattle.order.specs.declared.Reading.{Reading}
 use Rattle.reading.proofs.Heads.{whole-long}
-use Rattle.reading.proofs.Verdicts.{told-refused, left-refused}
+use Rattle.reading.proofs.Verdicts.{told-refused}
 use Rattle.reading.proofs.Answering.{numbered-long, numbered-answer, numbered-left}
 use borrow.Author.Needs.{needs}
 use Rattle.reading.proofs.reads.numbered.Statement.{statement}

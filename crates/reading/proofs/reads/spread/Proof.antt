@@ -7,6 +7,7 @@ use Prim.Native.Nat.{ℕ, _+_}
 use borrow.Author.Tests.{not-true, not-false}
 use lib.Dec.{eqb}
 use lib.ListN.{length}
+use Rattle.refusal.proofs.Left.{left-accepted, left-refused}
 use Rattle.refusal.specs.declared.Verdict.{Verdict}
 use Rattle.refusal.specs.Answer.{answer}
 use Rattle.refusal.specs.Order.{judge}
@@ -18,7 +19,7 @@ use Rattle.record.specs.Bytes.{unpacked, unused}
 use Rattle.record.specs.Record.{beaten, bodyRows}
 use Rattle.record.proofs.Packing.{length-tabulate}
 use Rattle.reading.specs.Reading.{told}
-use Rattle.reading.proofs.Verdicts.{late-check, told-refused, told-accepted, left-refused, left-accepted, hand-checked, spoiled-bits, spoiled-not, unpacked-beats}
+use Rattle.reading.proofs.Verdicts.{late-check, told-refused, told-accepted, hand-checked, spoiled-bits, spoiled-not, unpacked-beats}
 use borrow.Author.Needs.{needs}
 use Rattle.reading.proofs.reads.spread.Statement.{statement}
 use Rattle.reading.proofs.reads.spread.Tie as tie

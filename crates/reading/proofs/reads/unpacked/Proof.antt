@@ -6,18 +6,19 @@ use Prim.Native.Nat.{ℕ, _+_, _≤_}
 use native.Mathlib.Omega.{arith}
 use lib.ListN.{length, drop}
 use lib.Seq.{length-take-le}
+use Rattle.refusal.proofs.Left.{left-part, left-refused}
+use Rattle.refusal.specs.Answer.{left}
 use Rattle.refusal.specs.declared.Verdict.{Verdict}
 use Rattle.refusal.specs.Order.{judge}
 use Rattle.refusal.proofs.Order.{judge-refused, judge-accepted}
-use Rattle.triangle.specs.Count.{largest}
+use Rattle.triangle.specs.Count.{largest, mostBeats}
 use Rattle.counts.specs.Counts.{countRows}
 use Rattle.counts.proofs.Sizes.{counts-allowed}
-use Rattle.circle.specs.Answers.{left}
 use Rattle.number.specs.Number.{numberOf}
 use Rattle.record.specs.Bytes.{bytesFor, unpacked}
 use Rattle.record.specs.Record.{beaten, bodyRows}
 use Rattle.reading.specs.Reading.{told}
-use Rattle.reading.proofs.Verdicts.{late-counts, told-refused, left-refused, left-part, spoiled-long}
+use Rattle.reading.proofs.Verdicts.{late-counts, told-refused, spoiled-long}
 use borrow.Author.Needs.{needs}
 use Rattle.reading.proofs.reads.unpacked.Statement.{statement}
 use Rattle.reading.proofs.reads.unpacked.Tie as tie
@@ -45,7 +46,7 @@ module _ (c : tie.After-enum-told) where
   allowed : judge (countRows t s) ≡ Verdict.Accepted
   allowed = sym (c .before .before .allowed .ensures) ∙ c .enum-told .given .1
 
-  few : (t ≤ largest) × (s ≤ t) × (largest + largest ≤ length out)
+  few : (t ≤ largest) × (s ≤ t) × (mostBeats ≤ length out)
   few = let counts = counts-allowed t s allowed in (counts .0, counts .1, start .pre .3)
 
   verdict : judge (countRows t s ++ bodyRows beaten t s long packed) ≡ judge (bodyRows beaten t s long packed)

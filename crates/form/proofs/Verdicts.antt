@@ -4,7 +4,6 @@
 --     form-refused, form-long, form-taken             of the bytes for a form: then 3
 --     form-allowed         what an accepted call for a form says of the number and the bytes
 --     sheet-refused, sheet-short, sheet-taken         of the place on a sheet: then 12
---     refused-left, accepted-left                     what a call answers and leaves, by the verdict
 --     on-part                                         a sheet whose part has become the form
 -- Assumes nothing.
 use mathlib.Core.Bool.{not, false, true≢false}
@@ -17,6 +16,7 @@ use borrow.Author.Tests.{lt-ltb, le-ltb, eq-eqb, ne-eqb}
 use lib.Dec.{eqb, ltb}
 use lib.ListN.{length, take, drop}
 use lib.Seq.{drop-drop}
+use Rattle.form.specs.Answers.{numberRows, formRows, sheetRows, onSheet}
 use Rattle.refusal.specs.declared.Refusal.{Refusal}
 use Rattle.refusal.specs.declared.Refusal.the-variants.{WrongLength, NoSuchNumber, NoRoom}
 use Rattle.refusal.specs.declared.Verdict.{Verdict}
@@ -26,8 +26,6 @@ use Rattle.refusal.proofs.Order.{judge-refused, judge-accepted, judge-front, ju
 use Rattle.triangle.specs.Count.{N, largest}
 use Rattle.counts.specs.Counts.{countRows}
 use Rattle.counts.proofs.Sizes.{counts-allowed}
-use Rattle.circle.specs.Answers.{left}
-use Rattle.number.specs.Answers.{numberRows, formRows, sheetRows, onSheet}
 
 module _ (t s n : ℕ) where
   abbrev seven : List Row
@@ -99,14 +97,6 @@ module _ (t s n : ℕ) where
     pub sheet-taken : judge (numberRows t s n) ≡ Verdict.Accepted → column + t + s ≤ length sheet
         → judge (sheetRows t s n sheet column) ≡ Verdict.Accepted
     sheet-taken e h = judge-accepted (numberRows t s n) twelve e ∙ simp (le-ltb (length sheet) (column + t + s) h)
-
-pub refused-left : {v : Verdict} {why : Refusal} → v ≡ Verdict.Refused why → (done lent : List ℕ)
-    → (Verdict.Refused why ≡ v) × (lent ≡ left v done lent)
-refused-left e done lent = (sym e, ap (λ (v : Verdict). left v done lent) (sym e))
-
-pub accepted-left : {v : Verdict} → v ≡ Verdict.Accepted → {c done : List ℕ} → c ≡ done → (lent : List ℕ)
-    → (Verdict.Accepted ≡ v) × (c ≡ left v done lent)
-accepted-left e {done = done} d lent = (sym e, d ∙ ap (λ (v : Verdict). left v done lent) (sym e))
 
 pub on-part : (column end : ℕ) (form sheet : List ℕ) → end ≡ column + length form
     → take column sheet ++ (form ++ drop (end - column) (drop column sheet)) ≡ onSheet column form sheet

@@ -1,10 +1,10 @@
--- `line::field` meets its contract: the number and then the space. Assumes nothing.
+-- `text::field` meets its contract: the number and then the space. Assumes nothing.
 use native.Mathlib.Omega.{arith}
-use Rattle.line.proofs.Digits.{digits-fit}
-use Rattle.line.proofs.Writing.{written-then}
+use Rattle.text.proofs.Digits.{digits-fit}
+use Rattle.text.proofs.Writing.{written-then}
 use borrow.Author.Needs.{needs}
-use Rattle.line.proofs.field.Statement.{statement}
-use Rattle.line.proofs.field.Tie as tie
+use Rattle.text.proofs.field.Statement.{statement}
+use Rattle.text.proofs.field.Tie as tie
 
 decimal-requires : tie.Need-decimal-requires
 decimal-requires c κs = search needs

@@ -1,10 +1,10 @@
--- `line::width` meets its contract: the power is ten to the digits counted, and n has no fewer. Assumes nothing.
+-- `text::width` meets its contract: the power is ten to the digits counted, and n has no fewer. Assumes nothing.
 use Prim.Native.Nat.{_-_}
 use native.Mathlib.Omega.{arith}
-use Rattle.line.proofs.Digits.{Counting, counting-one, counting-more, counting-all, counting-most, power-fits}
+use Rattle.text.proofs.Digits.{Counting, counting-one, counting-more, counting-all, counting-most, power-fits}
 use borrow.Author.Needs.{needs}
-use Rattle.line.proofs.width.Statement.{statement}
-use Rattle.line.proofs.width.Tie as tie
+use Rattle.text.proofs.width.Statement.{statement}
+use Rattle.text.proofs.width.Tie as tie
 
 abbrev Inv-loop : tie.InvT-loop
 Inv-loop n digits₀ power₀ digits power = Counting n digits power

@@ -10,10 +10,10 @@ use native.Mathlib.Decide.{decLt}
 use native.Mathlib.Omega.{arith}
 use lib.ListN.{length, getD, List·getD-append, length-append}
 use lib.Seq.{getD-append-seam, append-snoc}
-use Rattle.line.specs.Line.{decimal}
-use Rattle.line.specs.Spells.{digitsValue, Spells}
-use Rattle.line.specs.Written.{Written}
-use Rattle.line.proofs.Digits.{decimal-one, decimal-more}
+use Rattle.text.specs.Decimal.{decimal}
+use Rattle.text.specs.Spells.{digitsValue, Spells}
+use Rattle.text.specs.Written.{Written}
+use Rattle.text.proofs.Digits.{decimal-one, decimal-more}
 
 value-join : (v : ℕ) (d e : List ℕ) → digitsValue v (d ++ e) ≡ digitsValue (digitsValue v d) e
 unfolding digitsValue

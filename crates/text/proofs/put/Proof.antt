@@ -1,8 +1,8 @@
--- `line::put` meets its contract. Assumes nothing.
-use Rattle.line.proofs.Writing.{written-put}
+-- `text::put` meets its contract. Assumes nothing.
+use Rattle.text.proofs.Writing.{written-put}
 use borrow.Author.Needs.{needs}
-use Rattle.line.proofs.put.Statement.{statement}
-use Rattle.line.proofs.put.Tie as tie
+use Rattle.text.proofs.put.Statement.{statement}
+use Rattle.text.proofs.put.Tie as tie
 
 slice-write-out : tie.Need-slice-write-out
 slice-write-out c = search needs

@@ -1,15 +1,15 @@
--- `line::decimal` meets its contract: each turn writes one digit more, from the last on. The measure is what is left of
+-- `text::decimal` meets its contract: each turn writes one digit more, from the last on. The measure is what is left of
 -- the number, which falls to its tenth. Assumes nothing.
 use mathlib.Core.Path.{_≡_, refl, _∙_, ap}
 use Prim.Native.Nat.{ℕ, _+_, _%_, _≤_}
 use native.Mathlib.Omega.{arith}
 use lib.ListN.{length, length-set}
-use Rattle.line.specs.Line.{decimal}
-use Rattle.line.proofs.Digits.{digits-some, digits-fit}
-use Rattle.line.proofs.Writing.{Spelling, spelling-none, spelling-some, spelling-more, spelling-all}
+use Rattle.text.specs.Decimal.{decimal}
+use Rattle.text.proofs.Digits.{digits-some, digits-fit}
+use Rattle.text.proofs.Writing.{Spelling, spelling-none, spelling-some, spelling-more, spelling-all}
 use borrow.Author.Needs.{needs}
-use Rattle.line.proofs.decimal.Statement.{statement}
-use Rattle.line.proofs.decimal.Tie as tie
+use Rattle.text.proofs.decimal.Statement.{statement}
+use Rattle.text.proofs.decimal.Tie as tie
 
 abbrev Inv-loop : tie.InvT-loop
 Inv-loop n out₀ at end last₀ rest₀ out last rest = (length out ≡ length out₀) × Spelling n at out₀ end out last rest

@@ -17,7 +17,7 @@ use native.Mathlib.Nat.{pow-suc, one-le-pow, pow-le-pow-right}
 use native.Mathlib.Numerals.{add-one}
 use native.Mathlib.Omega.{arith}
 use lib.ListN.{length, length-append}
-use Rattle.line.specs.Line.{digits, decimal}
+use Rattle.text.specs.Decimal.{digits, decimal}
 
 digits-none : (k : ℕ) → digits k 0 ≡ []
 unfolding digits

@@ -11,9 +11,10 @@ use Prim.Native.Nat.{ℕ, _+_, _%_, _≤_, _<_}
 use native.Mathlib.Nat.{mod-lt}
 use native.Mathlib.Omega.{arith}
 use lib.ListN.{length}
+use Rattle.form.specs.Answers.{formVerdict, formLeft}
 use Rattle.refusal.specs.declared.Answer.{Answer}
 use Rattle.refusal.specs.declared.Verdict.{Verdict}
-use Rattle.refusal.specs.Answer.{answer}
+use Rattle.refusal.specs.Answer.{answer, left}
 use Rattle.refusal.proofs.Theorems.{answer-value}
 use Rattle.triangle.specs.Count.{N}
 use Rattle.triangle.proofs.Count.{N-pos}
@@ -21,14 +22,14 @@ use Rattle.counts.specs.Counts.{Allowed}
 use Rattle.counts.proofs.Sizes.{allowed-counts}
 use Rattle.schedule.specs.Check.{checked}
 use Rattle.schedule.proofs.Theorems.{accepted-schedule, schedule-accepted}
-use Rattle.circle.specs.Answers.{left, longest, runLeft}
+use Rattle.circle.specs.Answers.{longest, runLeft}
 use Rattle.circle.specs.Walk.{steps}
 use Rattle.circle.proofs.Forms.{run-taken}
 use Rattle.number.specs.Number.{numberOf, formOf}
-use Rattle.number.specs.Answers.{numberAnswer, formVerdict, formLeft}
+use Rattle.number.specs.Answers.{numberAnswer}
 use Rattle.number.proofs.Numbers.{form-schedule}
 use Rattle.number.proofs.Theorems.{number-below, number-form, form-number, walking-asking}
-use Rattle.number.proofs.Verdicts.{number-allowed, number-taken, form-allowed, form-taken}
+use Rattle.form.proofs.Verdicts.{number-allowed, number-taken, form-allowed, form-taken}
 
 module _ (t s : ℕ) where
   -- what is written
