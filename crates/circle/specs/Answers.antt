@@ -1,4 +1,5 @@
--- What the step and the run answer and leave, the manual, "The step" and "Refusal numbers" (Order: schedules). Definitions only.
+-- What the step and the run answer and leave, the manual, "The step" and "Refusal numbers" (Order: schedules).
+-- Definitions only.
 --     longest           the most steps that a run may have [A6]
 --     runRows           the refusals of a run, in their order: those of the schedule, then 13 [R6]
 --     nextAnswer, nextLeft     of one step: the changed beats, and the next form

@@ -1,7 +1,8 @@
--- What a step stores, for the contracts of the private functions that find and make it. proofs/Stores.antt shows that a plan is the
--- rule's next form, so nothing here has to be believed. Definitions only.
+-- What a step stores, for the contracts of the private functions that find and make it. proofs/Stores.antt shows that a
+-- plan is the rule's next form, so nothing here has to be believed. Definitions only.
 --     Form b            b is a schedule of its own counts
---     applied           the schedule after the stores of a move: a swap puts a 1 at y and a 0 at x; a dip also moves a 0 from behind x to the second place
+--     applied           the schedule after the stores of a move: a swap puts a 1 at y and a 0 at x; a dip also moves a
+--                       0 from behind x to the second place
 --     changes           how many beats a move changes
 --     Inside            the places of a move are inside a list of n beats
 --     Plans b m         m makes the next form of b

@@ -4,4 +4,5 @@ pub mod Accepted
 pub mod Answered
 pub mod Demands
 pub mod Cases
+pub mod Shams
 pub mod Handed

@@ -1,10 +1,12 @@
--- Thirteen of the library's entry points as calls, and what each of them answers and leaves, by the words of its contract; src/lib.rt proves
--- that of each function. The others answer a part of these: each C function but gv_version one number of one of them, by an equation with the
--- same definition, and the functions that take a list of counts the same; the packing list's line is `packing`'s. Definitions only.
+-- Thirteen of the library's entry points as calls, and what each of them answers and leaves, by the words of its
+-- contract; src/lib.rt proves that of each function. The others answer a part of these: each C function but gv_version
+-- one number of one of them, by an equation with the same definition, and the functions that take a list of counts the
+-- same; the packing list's line is `packing`'s. Definitions only.
 --     Call            an entry point with its numbers and with what is lent to it
 --     lent            what is lent to a call, list by list
 --     Says            an answer that is one number, or a refusal
---     Gives           what the contract says of a call: its verdict, the numbers that it answers, and what it leaves in all that was lent
+--     Gives           what the contract says of a call: its verdict, the numbers that it answers, and what it leaves in
+--                     all that was lent
 --     silenced        the numbers that are 0 after a refusal: all but the bytes that a read record takes
 --     CountsOf        the counts that a call names
 --     BeatsOf         the beats that a call is asked about
@@ -69,14 +71,16 @@ Gives (run t s b k) v m x = Says (runAnswer t s b k) v m × (x ≡ runLeft t s b
 Gives (run-changed t s b k) v m x = Says (runAnswer t s b k) v m × (x ≡ b ∷ [])
 Gives (number t s b) v m x = Says (numberAnswer t s b) v m × (x ≡ b ∷ [])
 Gives (form t s n out) v m x = ((v ≡ formVerdict t s n out) × (m ≡ [])) × (x ≡ formLeft t s n out ∷ [])
-Gives (form-on-sheet t s n sheet column) v m x = ((v ≡ sheetVerdict t s n sheet column) × (m ≡ [])) × (x ≡ sheetLeft t s n sheet column ∷ [])
+Gives (form-on-sheet t s n sheet column) v m x = ((v ≡ sheetVerdict t s n sheet column) × (m ≡ []))
+    × (x ≡ sheetLeft t s n sheet column ∷ [])
 Gives (tree n b l r p) v m x =
     (l′ : List ℕ) × (r′ : List ℕ) × (p′ : List ℕ) × Treed n b l r p v l′ r′ p′ × (m ≡ []) × (x ≡ b ∷ l′ ∷ r′ ∷ p′ ∷ [])
 Gives (schedule-of-tree n l r p out) v m x =
     (b′ : List ℕ) × Untreed n l r p out v b′ × (m ≡ []) × (x ≡ l ∷ r ∷ p ∷ b′ ∷ [])
 Gives (read src out) v m x =
     let a = readAnswer src out in
-    ((v ≡ said.verdict a) × (m ≡ said.t a ∷ said.s a ∷ said.number a ∷ said.consumed a ∷ [])) × (x ≡ src ∷ readLeft src out ∷ [])
+    ((v ≡ said.verdict a) × (m ≡ said.t a ∷ said.s a ∷ said.number a ∷ said.consumed a ∷ []))
+    × (x ≡ src ∷ readLeft src out ∷ [])
 Gives (write kind t s b out) v m x = Says (writeAnswer kind t s b out) v m × (x ≡ b ∷ writeLeft kind t s b out ∷ [])
 
 abbrev pub silenced : Call → List ℕ → List ℕ

@@ -1,11 +1,12 @@
--- The examples of the manual, "Examples on both sides", that are marked P, in one list. proofs/Examples.antt shows that each holds.
--- A later example is one more line of the list; one of a new kind is also one more case of Example and of Holds. Definitions only.
+-- The examples of the manual, "Examples on both sides", that are marked P, in one list. proofs/Examples.antt shows that
+-- each holds. A later example is one more line of the list; one of a new kind is also one more case of Example and of
+-- Holds. Definitions only.
 --     Example      `counts t s n`: there are n forms of t, s
 --                  `follows t s l`: from t ones then s zeros on, the forms stand in the order of l
 --                  `changes t s l`: the steps from there on change as many beats as l says
 --                  `rounds t s n`: a whole round changes n beats
 --                  `numbers t s l`: the forms of l have the numbers from 0 on, and are the forms of those numbers
---                  `links b l r p`: the tree of the closed schedule b has the left children l, the right children r and the parents p
+-- `links b l r p`: the tree of the closed schedule b has the left children l, the right children r and the parents p
 --     Holds        what an example says, of the definitions
 --     examples     the list [P7] [E1] [E3] [E7a] [E9]
 use mathlib.Core.List.{List, [], _∷_}

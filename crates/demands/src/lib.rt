@@ -1,6 +1,7 @@
 // The demands of the letter and the examples of the manual that are marked P, as theorems about the definitions of
-// the crates above. The definitions are in specs/, the theorems in proofs/. The functions here only hand a call on: each
-// has the words of `Gives` for its contract, so that these are proved of the thirteen functions and not only read. [D1g]
+// the crates above. The definitions are in specs/, the theorems in proofs/. The functions here only hand a call on:
+// each has the words of `Gives` for its contract, so that these are proved of the thirteen functions and not only read.
+// [D1g]
 ghost use mathlib.Core.List.{[], _∷_};
 ghost use Rattle.refusal.specs.Answer.{verdict, value};
 ghost use Rattle.order.specs.Parts as said;
@@ -29,7 +30,8 @@ fn next(t: u64, s: u64, beats: &mut [u8]) -> Answer
 }
 
 fn changed(t: u64, s: u64, beats: &[u8]) -> Answer
-    ensures { λ r. ⌜ Gives (call.changed t s (now (beats .entry))) (verdict r) (value r ∷ []) (now (beats .exit) ∷ []) ⌝ }
+    ensures { λ r. ⌜ Gives (call.changed t s (now (beats .entry))) (verdict r) (value r ∷ []) (now (beats .exit)
+        ∷ []) ⌝ }
 {
     circle::changed(t, s, beats)
 }
@@ -41,13 +43,15 @@ fn run(t: u64, s: u64, beats: &mut [u8], k: u64) -> Answer
 }
 
 fn run_changed(t: u64, s: u64, beats: &[u8], k: u64) -> Answer
-    ensures { λ r. ⌜ Gives (call.run-changed t s (now (beats .entry)) k) (verdict r) (value r ∷ []) (now (beats .exit) ∷ []) ⌝ }
+    ensures { λ r. ⌜ Gives (call.run-changed t s (now (beats .entry)) k) (verdict r) (value r ∷ []) (now (beats .exit)
+        ∷ []) ⌝ }
 {
     circle::run_changed(t, s, beats, k)
 }
 
 fn number(t: u64, s: u64, beats: &[u8]) -> Answer
-    ensures { λ r. ⌜ Gives (call.number t s (now (beats .entry))) (verdict r) (value r ∷ []) (now (beats .exit) ∷ []) ⌝ }
+    ensures { λ r. ⌜ Gives (call.number t s (now (beats .entry))) (verdict r) (value r ∷ []) (now (beats .exit)
+        ∷ []) ⌝ }
 {
     number::number(t, s, beats)
 }
@@ -65,25 +69,31 @@ fn form_on_sheet(t: u64, s: u64, n: u64, sheet: &mut [u8], column: u64) -> Verdi
 }
 
 fn tree(n: u64, beats: &[u8], left: &mut [u8], right: &mut [u8], parent: &mut [u8]) -> Verdict
-    ensures { λ r. ⌜ Gives (call.tree n (now (beats .entry)) (now (left .entry)) (now (right .entry)) (now (parent .entry))) r [] (now (beats .exit) ∷ now (left .exit) ∷ now (right .exit) ∷ now (parent .exit) ∷ []) ⌝ }
+    ensures { λ r. ⌜ Gives (call.tree n (now (beats .entry)) (now (left .entry)) (now (right .entry))
+        (now (parent .entry))) r [] (now (beats .exit) ∷ now (left .exit) ∷ now (right .exit) ∷ now (parent .exit)
+        ∷ []) ⌝ }
 {
     tree::tree(n, beats, left, right, parent)
 }
 
 fn schedule_of_tree(n: u64, left: &[u8], right: &[u8], parent: &[u8], out: &mut [u8]) -> Verdict
-    ensures { λ r. ⌜ Gives (call.schedule-of-tree n (now (left .entry)) (now (right .entry)) (now (parent .entry)) (now (out .entry))) r [] (now (left .exit) ∷ now (right .exit) ∷ now (parent .exit) ∷ now (out .exit) ∷ []) ⌝ }
+    ensures { λ r. ⌜ Gives (call.schedule-of-tree n (now (left .entry)) (now (right .entry)) (now (parent .entry))
+        (now (out .entry))) r [] (now (left .exit) ∷ now (right .exit) ∷ now (parent .exit) ∷ now (out .exit)
+        ∷ []) ⌝ }
 {
     tree_back::schedule_of_tree(n, left, right, parent, out)
 }
 
 fn read(src: &[u8], out: &mut [u8]) -> Reading
-    ensures { λ r. ⌜ Gives (call.read (now (src .entry)) (now (out .entry))) (said.verdict r) (said.t r ∷ said.s r ∷ said.number r ∷ said.consumed r ∷ []) (now (src .exit) ∷ now (out .exit) ∷ []) ⌝ }
+    ensures { λ r. ⌜ Gives (call.read (now (src .entry)) (now (out .entry))) (said.verdict r) (said.t r ∷ said.s r
+        ∷ said.number r ∷ said.consumed r ∷ []) (now (src .exit) ∷ now (out .exit) ∷ []) ⌝ }
 {
     reading::read(src, out)
 }
 
 fn write(kind: u64, t: u64, s: u64, beats: &[u8], out: &mut [u8]) -> Answer
-    ensures { λ r. ⌜ Gives (call.write kind t s (now (beats .entry)) (now (out .entry))) (verdict r) (value r ∷ []) (now (beats .exit) ∷ now (out .exit) ∷ []) ⌝ }
+    ensures { λ r. ⌜ Gives (call.write kind t s (now (beats .entry)) (now (out .entry))) (verdict r) (value r
+        ∷ []) (now (beats .exit) ∷ now (out .exit) ∷ []) ⌝ }
 {
     record::write(kind, t, s, beats, out)
 }

@@ -1,5 +1,5 @@
--- What the form of a number, alone and on a sheet, answers and leaves, the manual, "The number", "Onto the sheet" and "Refusal numbers"
--- (Order: numbers). Definitions only.
+-- What the form of a number, alone and on a sheet, answers and leaves, the manual, "The number", "Onto the sheet" and
+-- "Refusal numbers" (Order: numbers). Definitions only.
 --     numberRows       the refusals of a number: 1, 2, then 7 [R14]
 --     formRows         alone: then 3 [R16]
 --     formVerdict, formLeft       what writing the form alone answers and leaves

@@ -1,4 +1,5 @@
--- What the number of a form answers, the manual, "The number" and "Refusal numbers" (Order: schedules). Definitions only.
+-- What the number of a form answers, the manual, "The number" and "Refusal numbers" (Order: schedules). Definitions
+-- only.
 --     numberAnswer     of a lent schedule: its number, or the check's refusal
 use mathlib.Core.List.{List}
 use Prim.Native.Nat.{ℕ}

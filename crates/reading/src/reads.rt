@@ -63,7 +63,8 @@ pub fn kind(src: &[u8]) -> u64
 fn formed(rows: &[[u64; SIDE]], t: u64, s: u64, number: u64, long: u64, out: &mut [u8]) -> Reading
     requires { ⌜ Counts (now rows) × (long ≤ longest) × (mostBeats ≤ length (now out)) ⌝ }
     ensures { λ r. ⌜ r ≡ told t s number long (judge (numberRows t s number)) ⌝ }
-    ensures { λ _. ⌜ now (out .exit) ≡ left (judge (numberRows t s number)) (formOf t s number ++ drop (t + s) (now (out .entry))) (now (out .entry)) ⌝ }
+    ensures { λ _. ⌜ now (out .exit) ≡ left (judge (numberRows t s number)) (formOf t s number
+        ++ drop (t + s) (now (out .entry))) (now (out .entry)) ⌝ }
 {
     let allowed = counts::allowed(t, s);
     match allowed {
@@ -87,8 +88,10 @@ fn formed(rows: &[[u64; SIDE]], t: u64, s: u64, number: u64, long: u64, out: &mu
 // A record of kind 1.
 pub fn numbered(rows: &[[u64; SIDE]], src: &[u8], long: u64, out: &mut [u8]) -> Reading
     requires { ⌜ Counts (now rows) × Whole (now src) long (now out) ⌝ }
-    ensures { λ r. ⌜ r ≡ reading part.numbered (now (src .entry)) (judge (kindRows part.numbered (now (src .entry)))) ⌝ }
-    ensures { λ _. ⌜ now (out .exit) ≡ leaving part.numbered (now (src .entry)) (judge (kindRows part.numbered (now (src .entry)))) (now (out .entry)) ⌝ }
+    ensures { λ r. ⌜ r ≡ reading part.numbered (now (src .entry)) (judge (kindRows part.numbered (now (src .entry))))
+        ⌝ }
+    ensures { λ _. ⌜ now (out .exit) ≡ leaving part.numbered (now (src .entry))
+        (judge (kindRows part.numbered (now (src .entry)))) (now (out .entry)) ⌝ }
 {
     if long != 12 {
         return Reading::Refused(Refusal::WrongSize, 2 + long);
@@ -108,9 +111,12 @@ fn spread(
     room: &mut [u8],
     out: &mut [u8],
 ) -> Reading
-    requires { ⌜ Counts (now rows) × Allowed t s × (long ≡ 4 + bytesFor (t + s)) × (length (now packed) ≡ bytesFor (t + s)) × (length (now room) ≡ t + s) × (length (now out) ≡ t + s) ⌝ }
-    ensures { λ r. ⌜ r ≡ told t s (numberOf t s (unpacked (t + s) (now (packed .entry)))) long (judge (bodyRows part.beaten t s long (now (packed .entry)))) ⌝ }
-    ensures { λ _. ⌜ now (out .exit) ≡ left (judge (bodyRows part.beaten t s long (now (packed .entry)))) (unpacked (t + s) (now (packed .entry))) (now (out .entry)) ⌝ }
+    requires { ⌜ Counts (now rows) × Allowed t s × (long ≡ 4 + bytesFor (t + s))
+        × (length (now packed) ≡ bytesFor (t + s)) × (length (now room) ≡ t + s) × (length (now out) ≡ t + s) ⌝ }
+    ensures { λ r. ⌜ r ≡ told t s (numberOf t s (unpacked (t + s) (now (packed .entry)))) long
+        (judge (bodyRows part.beaten t s long (now (packed .entry)))) ⌝ }
+    ensures { λ _. ⌜ now (out .exit) ≡ left (judge (bodyRows part.beaten t s long (now (packed .entry))))
+        (unpacked (t + s) (now (packed .entry))) (now (out .entry)) ⌝ }
 {
     if !pack::unpack(packed, room) {
         return Reading::Refused(Refusal::WrongSize, 2 + long);
@@ -139,9 +145,13 @@ fn unpacked(
     packed: &[u8],
     out: &mut [u8],
 ) -> Reading
-    requires { ⌜ Counts (now rows) × (long ≤ longest) × (length (now packed) + 4 ≡ long) × (mostBeats ≤ length (now out)) ⌝ }
-    ensures { λ r. ⌜ r ≡ told t s (numberOf t s (beats.unpacked (t + s) (now (packed .entry)))) long (judge (countRows t s ++ bodyRows part.beaten t s long (now (packed .entry)))) ⌝ }
-    ensures { λ _. ⌜ now (out .exit) ≡ left (judge (countRows t s ++ bodyRows part.beaten t s long (now (packed .entry)))) (beats.unpacked (t + s) (now (packed .entry)) ++ drop (t + s) (now (out .entry))) (now (out .entry)) ⌝ }
+    requires { ⌜ Counts (now rows) × (long ≤ longest) × (length (now packed) + 4 ≡ long)
+        × (mostBeats ≤ length (now out)) ⌝ }
+    ensures { λ r. ⌜ r ≡ told t s (numberOf t s (beats.unpacked (t + s) (now (packed .entry)))) long
+        (judge (countRows t s ++ bodyRows part.beaten t s long (now (packed .entry)))) ⌝ }
+    ensures { λ _. ⌜ now (out .exit) ≡ left (judge (countRows t s
+        ++ bodyRows part.beaten t s long (now (packed .entry)))) (beats.unpacked (t + s) (now (packed .entry))
+        ++ drop (t + s) (now (out .entry))) (now (out .entry)) ⌝ }
 {
     let allowed = counts::allowed(t, s);
     match allowed {
@@ -161,7 +171,8 @@ fn unpacked(
 pub fn beaten(rows: &[[u64; SIDE]], src: &[u8], long: u64, out: &mut [u8]) -> Reading
     requires { ⌜ Counts (now rows) × Whole (now src) long (now out) ⌝ }
     ensures { λ r. ⌜ r ≡ reading part.beaten (now (src .entry)) (judge (kindRows part.beaten (now (src .entry)))) ⌝ }
-    ensures { λ _. ⌜ now (out .exit) ≡ leaving part.beaten (now (src .entry)) (judge (kindRows part.beaten (now (src .entry)))) (now (out .entry)) ⌝ }
+    ensures { λ _. ⌜ now (out .exit) ≡ leaving part.beaten (now (src .entry))
+        (judge (kindRows part.beaten (now (src .entry)))) (now (out .entry)) ⌝ }
 {
     if long < 4 {
         return Reading::Refused(Refusal::WrongSize, 2 + long);

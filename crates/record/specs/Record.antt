@@ -3,7 +3,8 @@
 --     payload          what a record of a kind has behind its counts: the number (kind 1), or the packed beats (kind 2)
 --     recordOf         the bytes of a record: its length, its kind, its counts, its payload [O5] [B2]
 --     writeRows        the refusals of writing, in their order: 10, 1, 2, 3, 4, 5, 6, 12 [R19]
---     writeAnswer, writeLeft     what writing answers, 2 + L, and leaves: the record, and behind it what was there; kindAnswer and kindLeft
+--     writeAnswer, writeLeft     what writing answers, 2 + L, and leaves: the record, and behind it what was there;
+--                                kindAnswer and kindLeft
 --                      where the kind is known
 --     A record, read:
 --     long, kindIn, ups, downs, body     the parts of the record that a slice starts with
@@ -11,7 +12,8 @@
 --     misfit           L is wrong for the kind
 --     spoiled          kind 2: L is not exactly what the counts need, or an unused bit is not 0
 --     meant, meantNumber         what a record means: a schedule, and its number [B7]
---     headRows         the refusals of reading before the kind is known, in their order: 12, 9, 11 (L below 2), 10 [R13]
+--     headRows         the refusals of reading before the kind is known, in their order: 12, 9, 11 (L below 2), 10
+--                      [R13]
 --     kindRows         and those of a kind: 11 (L wrong for it), 1, 2, then 7, or 11, 5, 6
 --     readRows         both [R20]
 --     eaten            the bytes consumed: 2 + L, but 0 after 9 and after 12 [R21]
@@ -58,7 +60,8 @@ payload unknown t s b = []
 
 abbrev pub recordOf : ℕ → ℕ → ℕ → List ℕ → List ℕ
 recordOf kind t s b =
-    lowFirst 2 (4 + length (payload (kindOf kind) t s b)) ++ (lowFirst 2 kind ++ (t ∷ (s ∷ payload (kindOf kind) t s b)))
+    lowFirst 2 (4 + length (payload (kindOf kind) t s b))
+    ++ (lowFirst 2 kind ++ (t ∷ (s ∷ payload (kindOf kind) t s b)))
 
 abbrev pub roomRow : ℕ → ℕ → ℕ → List ℕ → List ℕ → Row
 roomRow kind t s b out = ltb (length out) (length (recordOf kind t s b)) ⇒ NoRoom
@@ -77,7 +80,8 @@ writeLeft kind t s b out = written (judge (writeRows kind t s b out)) kind t s b
 
 -- the same for a kind that is known
 abbrev pub kindAnswer : ℕ → ℕ → ℕ → List ℕ → List ℕ → Answer
-kindAnswer kind t s b out = answer (judge (checkRows t s b ++ roomRow kind t s b out ∷ [])) (length (recordOf kind t s b))
+kindAnswer kind t s b out =
+    answer (judge (checkRows t s b ++ roomRow kind t s b out ∷ [])) (length (recordOf kind t s b))
 
 abbrev pub kindLeft : ℕ → ℕ → ℕ → List ℕ → List ℕ → List ℕ
 kindLeft kind t s b out = written (judge (checkRows t s b ++ roomRow kind t s b out ∷ [])) kind t s b out

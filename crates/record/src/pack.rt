@@ -37,7 +37,8 @@ fn octet(beats: &[u8], from: usize) -> u8
 
 // Fills the bytes with the beats packed.
 pub fn pack(beats: &[u8], out: &mut [u8])
-    requires { ⌜ (length (now beats) ≤ 1000) × ((i : ℕ) → getD (now beats) i 0 ≤ 1) × (length (now out) ≡ bytesFor (length (now beats))) ⌝ }
+    requires { ⌜ (length (now beats) ≤ 1000) × ((i : ℕ) → getD (now beats) i 0 ≤ 1)
+        × (length (now out) ≡ bytesFor (length (now beats))) ⌝ }
     ensures { λ r. ⌜ now (out .exit) ≡ packed (now (beats .entry)) ⌝ }
 {
     let mut at = 0;

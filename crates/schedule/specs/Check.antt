@@ -1,6 +1,8 @@
--- The check of a lent list of beats, the manual, "Refusal numbers" (rows 1 to 6, and Order: schedules). Definitions only.
+-- The check of a lent list of beats, the manual, "Refusal numbers" (rows 1 to 6, and Order: schedules). Definitions
+-- only.
 --     badBeat       the first beat that is neither 0 nor 1; the length where there is none
---     emptyHand     the first beat that sets down with nothing in hand: a 0 with no more ones than zeros before it; the length where there is none
+--     emptyHand     the first beat that sets down with nothing in hand: a 0 with no more ones than zeros before it; the
+--                   length where there is none
 --     handRows      the refusals that zeros and ones of the right length can get, in their order: 5, 6
 --     playRows      the same of beats of any value: 4 over all beats first
 --     beatRows      the same of beats of any length: 3 first

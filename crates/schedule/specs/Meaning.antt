@@ -1,18 +1,20 @@
--- When a lent schedule is accepted and when it is refused, in the words of the manual's table. proofs/Theorems.antt shows that the
--- verdict of Check.antt is the right one, and the only right one. Definitions only.
+-- When a lent schedule is accepted and when it is refused, in the words of the manual's table. proofs/Theorems.antt
+-- shows that the verdict of Check.antt is the right one, and the only right one. Definitions only.
 --     First P n k     k is the first number below n of which P holds [A4] [R5]
 --     Nowhere P n     P holds of no number below n
 --     Bad b k         the beat at k is neither 0 nor 1
 --     Bare b k        the beat at k sets down with nothing in hand: a 0 with no more ones than zeros before it
 --     Refuses         when each refusal is given: its row holds, and no row before it does
---     Right           the right verdict: accepted exactly if the beats are a schedule of allowed counts, else the refusal
+--     Right           the right verdict: accepted exactly if the beats are a schedule of allowed counts, else the
+--                     refusal
 use mathlib.Core.List.{List}
 use mathlib.Core.Logic.{_≢_}
 use mathlib.Core.Path.{_≡_}
 use Prim.Native.Nat.{ℕ, _+_, _≤_, _<_}
 use lib.ListN.{length, getD, take}
 use Rattle.refusal.specs.declared.Refusal.{Refusal}
-use Rattle.refusal.specs.declared.Refusal.the-variants.{TooManyTasks, MoreDownThanUp, WrongLength, BadBeat, EmptyHand, WrongTakeUps}
+use Rattle.refusal.specs.declared.Refusal.the-variants.{TooManyTasks, MoreDownThanUp, WrongLength}
+use Rattle.refusal.specs.declared.Refusal.the-variants.{BadBeat, EmptyHand, WrongTakeUps}
 use Rattle.refusal.specs.declared.Verdict.{Verdict}
 use Rattle.triangle.specs.Count.{largest}
 use Rattle.counts.specs.Counts.{Allowed}
@@ -37,8 +39,10 @@ pub data Refuses (t s : ℕ) (b : List ℕ) : Refusal → Type 0 where
   for-downs : t ≤ largest → t < s → Refuses t s b MoreDownThanUp
   for-length : Allowed t s → length b ≢ t + s → Refuses t s b WrongLength
   for-beat : {at : ℕ} → Allowed t s → length b ≡ t + s → First (Bad b) (length b) at → Refuses t s b (BadBeat at)
-  for-hand : {at : ℕ} → Allowed t s → length b ≡ t + s → Nowhere (Bad b) (length b) → First (Bare b) (length b) at → Refuses t s b (EmptyHand at)
-  for-ups : Allowed t s → length b ≡ t + s → Nowhere (Bad b) (length b) → Nowhere (Bare b) (length b) → ones b ≢ t → Refuses t s b WrongTakeUps
+  for-hand : {at : ℕ} → Allowed t s → length b ≡ t + s → Nowhere (Bad b) (length b) → First (Bare b) (length b) at
+      → Refuses t s b (EmptyHand at)
+  for-ups : Allowed t s → length b ≡ t + s → Nowhere (Bad b) (length b) → Nowhere (Bare b) (length b) → ones b ≢ t
+      → Refuses t s b WrongTakeUps
 
 abbrev pub Right : ℕ → ℕ → List ℕ → Verdict → Type 0
 Right t s b Verdict.Accepted = Allowed t s × Schedule t s b

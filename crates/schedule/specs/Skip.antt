@@ -1,6 +1,6 @@
 -- The scan for another beat. Definitions only.
---     skipped b from v     the first place from `from` on whose beat is not v, or the length where there is none; `from` itself where it
---                          is past the end
+--     skipped b from v     the first place from `from` on whose beat is not v, or the length where there is none;
+--                          `from` itself where it is past the end
 use mathlib.Core.Bool.{Bool, not}
 use mathlib.Core.List.{List}
 use Prim.Native.Nat.{ℕ, _-_}

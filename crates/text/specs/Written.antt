@@ -1,5 +1,6 @@
 -- What the parts of a line leave when they are written one behind the other. Definitions only.
---     Written     a piece is written from the index at on; what stood before and behind it stays; r is the index behind it
+--     Written     a piece is written from the index at on; what stood before and behind it stays; r is the index behind
+--                 it
 use mathlib.Core.List.{List, _++_}
 use mathlib.Core.Path.{_≡_}
 use Prim.Native.Nat.{ℕ, _+_}

@@ -1,7 +1,8 @@
 -- Binary trees, the manual, "Tree table" (source 000, section 2; source 001, section 2.4.1). Definitions only.
 --     Tree        a leaf, or an inner node with a tree on its left and one on its right
 --     size        its inner nodes
---     word        its nodes in preorder, a node before its left tree and that before its right one: 1 for an inner node, 0 for a leaf
+--     word        its nodes in preorder, a node before its left tree and that before its right one: 1 for an inner
+--                 node, 0 for a leaf
 --     The inner nodes have numbers, in preorder from some first number on; 0 stands for a leaf, or for no node:
 --     root k      the number of the topmost node
 --     lefts k, rights k     for each node in its order, the number of its left child and of its right child

@@ -23,8 +23,12 @@ fn adopt(parent: &mut [u8], child: u8, node: u8)
 
 // Writes the row of a node with its two children, and makes it their parent; its own is not known yet.
 fn plant(left: &mut [u8], right: &mut [u8], parent: &mut [u8], row: usize, first: u8, second: u8)
-    requires { ⌜ (row < length (now left)) × (row < length (now right)) × (row < length (now parent)) × (row < largest) × (first ≤ length (now parent)) × (second ≤ length (now parent)) ⌝ }
-    ensures { λ r. ⌜ (now (left .exit) ≡ set (now (left .entry)) row first) × (now (right .exit) ≡ set (now (right .entry)) row second) × (now (parent .exit) ≡ adopted second (row + 1) (adopted first (row + 1) (set (now (parent .entry)) row 0))) ⌝ }
+    requires { ⌜ (row < length (now left)) × (row < length (now right)) × (row < length (now parent))
+        × (row < largest) × (first ≤ length (now parent)) × (second ≤ length (now parent)) ⌝ }
+    ensures { λ r. ⌜ (now (left .exit) ≡ set (now (left .entry)) row first)
+        × (now (right .exit) ≡ set (now (right .entry)) row second)
+        × (now (parent .exit) ≡ adopted second (row + 1)
+        (adopted first (row + 1) (set (now (parent .entry)) row 0))) ⌝ }
 {
     let node = row as u8 + 1;
     left[row] = first;
@@ -37,8 +41,10 @@ fn plant(left: &mut [u8], right: &mut [u8], parent: &mut [u8], row: usize, first
 // Fills the tables of a closed schedule, from its last beat to its first. The stack has the roots of the
 // trees behind the beat, the nearest on top; at first the one leaf that the schedule leaves out.
 fn fill(beats: &[u8], left: &mut [u8], right: &mut [u8], parent: &mut [u8])
-    requires { ⌜ (length (now left) ≤ largest) × (length (now right) ≡ length (now left)) × (length (now parent) ≡ length (now left)) × Schedule (length (now left)) (length (now left)) (now beats) ⌝ }
-    ensures { λ r. ⌜ Has (length (now (left .entry))) (now (beats .entry)) (now (left .exit)) (now (right .exit)) (now (parent .exit)) ⌝ }
+    requires { ⌜ (length (now left) ≤ largest) × (length (now right) ≡ length (now left))
+        × (length (now parent) ≡ length (now left)) × Schedule (length (now left)) (length (now left)) (now beats) ⌝ }
+    ensures { λ r. ⌜ Has (length (now (left .entry))) (now (beats .entry)) (now (left .exit)) (now (right .exit))
+        (now (parent .exit)) ⌝ }
 {
     // a place for each node, and for one leaf more
     let mut stack = [0u8; triangle::SIDE];
@@ -94,7 +100,8 @@ pub fn sized(n: u64, beats: usize, left: usize, right: usize, parent: usize) -> 
 // Fills the tables of the tree of a closed schedule of n tasks. Refuses 1, 3, then 4 over all beats, 5, 6; a
 // refusal changes nothing. [W5] [T4]
 pub fn tree(n: u64, beats: &[u8], left: &mut [u8], right: &mut [u8], parent: &mut [u8]) -> Verdict
-    ensures { λ r. ⌜ Treed n (now (beats .entry)) (now (left .entry)) (now (right .entry)) (now (parent .entry)) r (now (left .exit)) (now (right .exit)) (now (parent .exit)) ⌝ }
+    ensures { λ r. ⌜ Treed n (now (beats .entry)) (now (left .entry)) (now (right .entry)) (now (parent .entry)) r
+        (now (left .exit)) (now (right .exit)) (now (parent .exit)) ⌝ }
 {
     let size = sized(n, beats.len(), left.len(), right.len(), parent.len());
     match size {

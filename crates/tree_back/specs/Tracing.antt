@@ -1,7 +1,8 @@
 -- What the inner functions answer and leave. Definitions only.
 --     rootNumber n      the root of a tree of n nodes, 0 where there is none
 --     isNext p k c own  c is node k + 1, the next in preorder, and its parent is own
---     Traced            what reading tables of n entries from the root on has found: b is the schedule that has them, or none has
+--     Traced            what reading tables of n entries from the root on has found: b is the schedule that has them,
+--                       or none has
 use mathlib.Core.Bool.{Bool, true, false, _&&_}
 use mathlib.Core.List.{List}
 use Prim.Native.Nat.{ℕ, zero, suc}

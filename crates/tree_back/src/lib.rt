@@ -36,8 +36,11 @@ fn next(parent: &[u8], row: usize, child: u8, own: u8) -> bool
 // last. The stack has the nodes whose right children are still to come. Answers whether the tables are those
 // of the beats written.
 fn trace(left: &[u8], right: &[u8], parent: &[u8], beats: &mut [u8]) -> bool
-    requires { ⌜ (length (now left) ≤ largest) × (length (now right) ≡ length (now left)) × (length (now parent) ≡ length (now left)) × (length (now beats) ≡ length (now left) + length (now left)) ⌝ }
-    ensures { λ r. ⌜ Traced (length (now (left .entry))) (now (left .entry)) (now (right .entry)) (now (parent .entry)) (now (beats .exit)) r ⌝ }
+    requires { ⌜ (length (now left) ≤ largest) × (length (now right) ≡ length (now left))
+        × (length (now parent) ≡ length (now left)) × (length (now beats)
+        ≡ length (now left) + length (now left)) ⌝ }
+    ensures { λ r. ⌜ Traced (length (now (left .entry))) (now (left .entry)) (now (right .entry))
+        (now (parent .entry)) (now (beats .exit)) r ⌝ }
 {
     // a place for each node, and one more
     let mut stack = [0u8; triangle::SIDE];
@@ -75,8 +78,10 @@ fn trace(left: &[u8], right: &[u8], parent: &[u8], beats: &mut [u8]) -> bool
 // The way back for sizes that fit; the room is as long as the schedule, and takes it until the tables are
 // known to have one.
 fn rebuild(left: &[u8], right: &[u8], parent: &[u8], room: &mut [u8], out: &mut [u8]) -> Verdict
-    requires { ⌜ (judge (lentRows (length (now left)) (now out) (now left) (now right) (now parent)) ≡ Verdict.Accepted) × (length (now room) ≡ length (now out)) ⌝ }
-    ensures { λ r. ⌜ Untreed (length (now (left .entry))) (now (left .entry)) (now (right .entry)) (now (parent .entry)) (now (out .entry)) r (now (out .exit)) ⌝ }
+    requires { ⌜ (judge (lentRows (length (now left)) (now out) (now left) (now right) (now parent))
+        ≡ Verdict.Accepted) × (length (now room) ≡ length (now out)) ⌝ }
+    ensures { λ r. ⌜ Untreed (length (now (left .entry))) (now (left .entry)) (now (right .entry))
+        (now (parent .entry)) (now (out .entry)) r (now (out .exit)) ⌝ }
 {
     if trace(left, right, parent, room) {
         bytes::copy(room, out);
@@ -89,7 +94,8 @@ fn rebuild(left: &[u8], right: &[u8], parent: &[u8], room: &mut [u8], out: &mut 
 // Writes the schedule of 2n beats that has these tables. Refuses 1, 3, then 8, exactly if no schedule has
 // them; a refusal changes nothing. [W5] [T3]
 pub fn schedule_of_tree(n: u64, left: &[u8], right: &[u8], parent: &[u8], out: &mut [u8]) -> Verdict
-    ensures { λ r. ⌜ Untreed n (now (left .entry)) (now (right .entry)) (now (parent .entry)) (now (out .entry)) r (now (out .exit)) ⌝ }
+    ensures { λ r. ⌜ Untreed n (now (left .entry)) (now (right .entry)) (now (parent .entry)) (now (out .entry)) r
+        (now (out .exit)) ⌝ }
 {
     let size = tree::sized(n, out.len(), left.len(), right.len(), parent.len());
     match size {
