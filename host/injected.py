@@ -59,7 +59,7 @@ def blocks():
 
 @functools.cache
 def stopped():
-    """Fewer, and the last one is cut: the list stops behind a 9."""
+    """Fewer, and the last one is cut: the list stops after a 9."""
     return Input(blocks().data[:1500] + b"\x0c\x00\x01\x00")
 
 

@@ -24,7 +24,7 @@ from verifying import ROOT, Wrong, contents, ended, language, parsed, sure, verd
 
 LIMIT = 300  # seconds for a check
 BUILT = ("host/libghanveltri.*", "host/packing_list", "bin/packing_list", "must-fail/*/*/.log")  # of target
-RIGHT = ".right"  # behind the name of a program, as it was built
+RIGHT = ".right"  # after the name of a program, as it was built
 
 # What is held of the sources.
 
@@ -138,7 +138,7 @@ LESS = f'#!/bin/sh\nPATH=/usr/bin:/bin\n"$0{RIGHT}" | sed 2d\n'  # a packing lis
 SILENT = f'#!/bin/sh\nexec "$0{RIGHT}" "$@" 2>/dev/null\n'  # and one that tells no failure
 
 CLAIMS, VACUITY, SHAMS, REQUIRES = "docs/CLAIMS.md", "docs/VACUITY.md", "docs/SHAMS.md", "docs/REQUIRES.md"
-FIRST = "| claim | kind | where |\n|---|---|---|---|\n| D1a |"  # behind the first id of a header
+FIRST = "| claim | kind | where |\n|---|---|---|---|\n| D1a |"  # after the first id of a header
 THEOREMS, CASES, BOUNDED = "crates/number/proofs/Theorems.antt", "crates/bounded/proofs/Cases.antt", "crates/bounded/specs/Bounded.antt"
 EDIT = "accepted_has_a_place"
 SHAM, LOG = f"crates/refusal/must-fail/{EDIT}.edit", f"target/must-fail/refusal/{EDIT}/.log"
@@ -194,7 +194,7 @@ BREAKS = {
     "heads_name_what_is_there": [
         Break("a name that is not there", BOUNDED, swap("--     every f n ", "--     evry f n "), (f"{BOUNDED} defines no evry",)),
         Break("a name only in a comment", BOUNDED, swap("unfoldable pub every :", "-- every :"), (f"{BOUNDED} defines no every",)),
-        Break("one space behind a name", BOUNDED, swap("--     every f n     the", "--     evry the"), ("defines no evry",)),
+        Break("one space after a name", BOUNDED, swap("--     every f n     the", "--     evry the"), ("defines no evry",)),
         Break("no name listed", BOUNDED, drop("--     ", 2), (f"{BOUNDED} lists no name",)),
         Break("no head", BOUNDED, drop("--", 3), (f"{BOUNDED} has no head",)),
     ],

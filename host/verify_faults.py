@@ -129,11 +129,11 @@ def input_not_ready():
             with not_ready(data) as pipe:
                 done = run(lister, source=pipe)
             listed = Input(data).listed(len(data))
-            yield hold(f"not ready behind {len(data)} bytes", lister, done, NOT_READ, told(READING, errno.EAGAIN), listed)
+            yield hold(f"not ready after {len(data)} bytes", lister, done, NOT_READ, told(READING, errno.EAGAIN), listed)
         too_long = SAMPLE.data + (1021).to_bytes(2, "little")
         with not_ready(too_long) as pipe:
             done = run(lister, source=pipe)
-        yield hold("not ready behind a 9", lister, done, LISTED, b"", packing.output(too_long))
+        yield hold("not ready after a 9", lister, done, LISTED, b"", packing.output(too_long))
 
 
 def output_not_ready():
@@ -160,7 +160,7 @@ def reader_gone(lister, prepare=None):
 
 
 def reader_leaving(lister, prepare=None):
-    """A run whose reader leaves behind the first bytes of the list."""
+    """A run whose reader leaves after the first bytes of the list."""
     with tempfile.TemporaryFile() as file:
         file.write(LONG.data)
         file.seek(0)

@@ -1,8 +1,8 @@
 #!/usr/bin/env python3
 """Holds the head of every file of specs/ and proofs/ to what the file holds: each begins with a comment, and each name that a line
 --     name, name     what it is
-of it gives is defined in the file below. Words behind a name are its arguments; an operator stands between two of them. A name that ends
-in .. stands for several. Where one space alone is behind the names they are the words up to the first without a comma; a line there that
+of it gives is defined in the file below. Words after a name are its arguments; an operator stands between two of them. A name that ends
+in .. stands for several. Where one space alone is after the names they are the words up to the first without a comma; a line there that
 is a sentence, from a capital to a full stop or a colon, gives none. A file of specs/ that is not written by a script gives a name.
 """
 import re

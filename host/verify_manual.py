@@ -2,7 +2,7 @@
 """Holds the manual pages of host/man to the header and to the command.
 
 ghanveltri(3) declares each function of the header as it stands there and says something of it, gives each refusal with
-its number and its text, names each limit, and names nothing else; a number behind the name of a constant is its value.
+its number and its text, names each limit, and names nothing else; a number after the name of a constant is its value.
 packing_list(1) names the options of --help; its example is the manual's, and prints what it shows. Both have the
 header's version, and groff formats them without a warning. Prints each fault, and ends with status 1 if there is one.
 """
@@ -68,7 +68,7 @@ def refusal_faults(parts):
 
 
 def number_faults(text):
-    """A number behind a constant's name is its value, each limit is named, major version and stack are the header's."""
+    """A number after a constant's name is its value, each limit is named, major version and stack are the header's."""
     values = constants()
     for name, number in re.findall(r"\b(GV_\w+) \((\d+)\)", text):
         if int(number) != values.get(name):

@@ -150,7 +150,7 @@ def sample(verifier):
 
 
 def cuts(verifier):
-    """Each record cut at every byte, alone and behind the ones before it; and shorter rests."""
+    """Each record cut at every byte, alone and after the ones before it; and shorter rests."""
     for number, record in enumerate(SAMPLE, 1):
         for length in range(len(record)):
             verifier.verify(f"record {number} cut to {length}", record[:length])
@@ -161,12 +161,12 @@ def cuts(verifier):
 
 
 def body_of(kind, length):
-    """What stands behind a length, zeros but for the kind."""
+    """What stands after a length, zeros but for the kind."""
     return kind.to_bytes(2, "little") + bytes(length - 2)
 
 
 def limits(verifier):
-    """The longest record and what is longer; behind a 9 nothing is read, whatever stands there."""
+    """The longest record and what is longer; after a 9 nothing is read, whatever stands there."""
     after = SAMPLE[0] * 200
     for kind in (0, 1, 2, 3, 65535):
         longest = packing.framed(body_of(kind, 1020))

@@ -15,7 +15,7 @@
  *   function of its own: `_refusal` answers GV_ACCEPTED or the refusal, `_place` the beat at fault, or 0 where
  *   there is none, and gv_count and gv_number the value, 0 after a refusal. gv_form, gv_next and gv_run answer
  *   GV_ACCEPTED or the refusal, and `_changed` the beats that a step or a run would change, 0 after a refusal.
- * - A slice is a pointer and, right behind it, its length in bytes. Nothing outside the slice is read or
+ * - A slice is a pointer and, right after it, its length in bytes. Nothing outside the slice is read or
  *   written, and a slice that is lent as const is only read.
  * - The caller owes a pointer that is valid for the length, and is not NULL even if the length is 0; slices
  *   of one call that do not overlap; and that nobody else writes a slice during the call, nor reads one that

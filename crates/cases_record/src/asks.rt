@@ -103,7 +103,7 @@ fn print_filled(head: &[u8], src: &mut [u8]) {
     show::text(b"\n");
 }
 
-// What so many bytes say, at most 1,030: some, and zeros behind them.
+// What so many bytes say, at most 1,030: some, and zeros after them.
 pub fn filled(head: &[u8], length: usize) {
     if 1030 < length {
         return;

@@ -60,7 +60,7 @@ fn print_written(kind: u64, t: u64, s: u64, x: u64, beats: &mut [u8], bytes: &mu
     print_changes(bytes);
 }
 
-// Some with no byte behind them, some with two.
+// Some with no byte after them, some with two.
 pub fn print_all() {
     print_record(1, 3, 2, 2, 14);
     print_record(1, 3, 2, 4, 16);

@@ -1,5 +1,5 @@
 // Records of some forms, of each kind: with a byte too little room, with exactly enough, and with three bytes
-// more. What is written is read back, alone and with those three bytes behind it.
+// more. What is written is read back, alone and with those three bytes after it.
 use crate::asks;
 
 // A record of so many bytes, 1 to 14.

@@ -164,7 +164,7 @@ pub fn take_ups() {
     spelled::long(14, 0x0C_00_02_00_20_20_FF_FF, 0xFF_FF_80_00_00_00);
 }
 
-// L is 1,020, which may be, and above, which may not; and bytes behind a short record.
+// L is 1,020, which may be, and above, which may not; and bytes after a short record.
 pub fn long() {
     spelled::filled(6, 0xFC_03_01_00_03_02, 1022);
     spelled::filled(7, 0xFC_03_02_00_03_02_A8, 1022);

@@ -40,7 +40,7 @@ fn print_long(head: u64, tail: u64, src: &mut [u8]) {
     asks::read(src);
 }
 
-// What n bytes say, 8 to 16: 8 of them, and those behind.
+// What n bytes say, 8 to 16: 8 of them, and those after.
 pub fn long(n: usize, head: u64, tail: u64) {
     if 16 < n {
         return;
@@ -54,7 +54,7 @@ fn print_filled(word: u64, head: &mut [u8], length: usize) {
     asks::filled(head, length);
 }
 
-// What n bytes, at most 8, and zeros behind them say, so many in all.
+// What n bytes, at most 8, and zeros after them say, so many in all.
 pub fn filled(n: usize, word: u64, length: usize) {
     if 8 < n {
         return;

@@ -1,6 +1,6 @@
 -- A step adds one to the rank, and from the last rank it goes to 0.
 --     Advances b c       what a step from b to c keeps, and what it does to the rank
---     follow             what stands behind the beats that move adds the same to the rank on both sides
+--     follow             what stands after the beats that move adds the same to the rank on both sides
 --     moved-advances     each shape of a step advances
 --     next-advances      so the next form does
 -- Assumes nothing.
@@ -30,7 +30,7 @@ unfolding raise
 raise-some t s zero h = absurd (omega arith)
 raise-some t s (suc v) h = omega arith
 
--- the rank behind one more 1, from the counts and the rank before it
+-- the rank after one more 1, from the counts and the rank before it
 module _ (r : List ℕ) (t s : ℕ) (o : ones r ≡ t) (z : zeros r ≡ s) where
   rank-up : (v : ℕ) → rank r ≡ v → 1 ≤ v → rank (1 ∷ r) ≡ N (suc t) (pred s) + pred v
   unfolding rank
@@ -53,7 +53,7 @@ follow (suc zero ∷ a) h r q e o z i n k =
     (rw (o, z, n) (omega (arith, raise-some (suc (ones r)) (zeros r) (suc (rank r)) (omega arith)))) k
 follow (suc (suc x) ∷ a) h r q e o z i n k = absurd (false≢true k)
 
--- ones, then zeros, last beat first; and the same behind a 1 and a 0
+-- ones, then zeros, last beat first; and the same after a 1 and a 0
 abbrev pub flat : ℕ → ℕ → List ℕ
 flat p q = downs q (ups p [])
 
@@ -198,7 +198,7 @@ advance-lifts p q a o =
           ∙ ap suc (sym (rank-flat p (suc q) (1 ∷ 1 ∷ a))));
     }
 
--- where the hand is empty behind the 1 and the 0, there are as many forms with a 0 more
+-- where the hand is empty after the 1 and the 0, there are as many forms with a 0 more
 closed-same : (q : ℕ) → N (suc (suc q)) (suc (suc q)) ≡ N (suc (suc q)) (suc q)
 closed-same q = omega (arith, N-add (suc q) (suc q) (omega arith), N-over (suc q) (suc (suc q)) (omega arith))
 

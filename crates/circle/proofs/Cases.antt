@@ -36,7 +36,7 @@ last-position : next (1 ∷ 1 ∷ 0 ∷ 0 ∷ 1 ∷ []) ≡ 1 ∷ 1 ∷ 1 ∷ 0 
 unfolding shift found has01 movesNext next firstFrom every ones zeros isSchedule
 last-position = refl
 
--- in 10101 the 0 behind the found 1 may not move: 10011 is no schedule
+-- in 10101 the 0 after the found 1 may not move: 10011 is no schedule
 not-10011 : movesNext (1 ∷ 0 ∷ 1 ∷ 0 ∷ 1 ∷ []) ≡ false
 unfolding shift found has01 movesNext next firstFrom every ones zeros isSchedule
 not-10011 = refl
@@ -45,7 +45,7 @@ next-10101 : next (1 ∷ 0 ∷ 1 ∷ 0 ∷ 1 ∷ []) ≡ 1 ∷ 1 ∷ 0 ∷ 0 ∷
 unfolding shift found has01 movesNext next firstFrom every ones zeros isSchedule
 next-10101 = refl
 
--- in 10110 the 1 behind it may: 11010 is one
+-- in 10110 the 1 after it may: 11010 is one
 moves-10110 : movesNext (1 ∷ 0 ∷ 1 ∷ 1 ∷ 0 ∷ []) ≡ true
 unfolding shift found has01 movesNext next firstFrom every ones zeros isSchedule
 moves-10110 = refl

@@ -1,6 +1,6 @@
 -- What the rule does to a schedule, by its shape.
 --     Moved b c       c is what the rule makes of b, one constructor for each shape
---     has01-none, has01-some     ones and zeros alone have no 01, and with a 1 behind them they have
+--     has01-none, has01-some     ones and zeros alone have no 01, and with a 1 after them they have
 --     next-moves      the next form of a schedule is what the rule makes of it
 -- Assumes nothing.
 use mathlib.Core.Bool.{Bool, true, false, false≢true, cond, and-eq-true-iff}
@@ -30,7 +30,7 @@ pub data Moved : List ℕ → List ℕ → Type 0 where
   closes : (p q : ℕ) → Moved (ups p (downs (suc q) (1 ∷ []))) (ups (suc p) (downs (suc q) []))
   lifts : (p q : ℕ) (a : List ℕ) → Moved (ups p (downs (suc q) (1 ∷ 1 ∷ a))) (ups (suc p) (downs (suc q) (1 ∷ a)))
   levels : (p q : ℕ) (a : List ℕ) → p ≡ suc q → Moved (ups p (downs (suc q) (1 ∷ 0 ∷ a))) (ups (suc p) (downs (suc q) (0 ∷ a)))
-  -- the 0 behind it moves to the second place
+  -- the 0 after it moves to the second place
   dips : (p q : ℕ) (a : List ℕ) → suc q ≤ p → Moved (ups (suc p) (downs (suc q) (1 ∷ 0 ∷ a))) (1 ∷ 0 ∷ ups p (downs (suc q) (1 ∷ a)))
 
 -- the shifts

@@ -1,6 +1,6 @@
 -- The rank of a schedule, by which the circle is counted: a number computed from the last beat towards the first, source 000, section 5.
 -- Lists are written last beat first here.
---     raise t s v     the rank with one more 1 behind a list of rank v; t, s are the counts with that 1
+--     raise t s v     the rank with one more 1 after a list of rank v; t, s are the counts with that 1
 --     rank r          the rank; `rankOf b` of a list written first beat first
 --     rank-below      it is below N of the counts
 --     rank-same       two schedules of the same counts with the same rank are equal

@@ -1,7 +1,7 @@
 -- The changed beats of a whole round: how many forms set down at their second beat, and that a round arrives at each once.
 --     ring n b          where the steps 1 to n from b arrive
 --     Second t s c      c is a schedule of t, s that sets down at its second beat
---     second-lists      they are the schedules of t−1, s−1 behind a 1 and a 0, so N(t−1, s−1) of them
+--     second-lists      they are the schedules of t−1, s−1 after a 1 and a 0, so N(t−1, s−1) of them
 --     round-dips        a round has N(t−1, s−1) − 1 dips
 --     round-worked      a round changes 2·N(t, s) + 2·N(t−1, s−1) − 2 beats
 -- Assumes nothing.
@@ -76,7 +76,7 @@ record Second (t s : ℕ) (c : List ℕ) : Type 0 where
   sets-down : getD c 1 0 ≡ 0
 
 module _ (t s : ℕ) where
-  -- a schedule of t, s behind a 1 and a 0
+  -- a schedule of t, s after a 1 and a 0
   behind : (d : List ℕ) → Schedule t s d → Second (suc t) (suc s) (1 ∷ 0 ∷ d)
   unfolding plays ones zeros
   behind d p =

@@ -1,6 +1,6 @@
 -- A list of beats as ones, then zeros, then a 1 and the rest.
 --     ups p c, downs q c          p ones, or q zeros, in front of c
---     View, view                  a list that plays is ones and zeros, or has a 1 behind its first zeros
+--     View, view                  a list that plays is ones and zeros, or has a 1 after its first zeros
 --     plays-shape, shape-plays    whether such a list plays, by how many ones and zeros it starts with
 --     shape-.., get-..            counts, lengths and beats by the shape
 --     turn-ups, turn-downs        the shape of the list written last beat first
@@ -62,7 +62,7 @@ unfolding plays
 downs-plays zero h c = ap (λ (k : ℕ). plays k c) (zero-add h)
 downs-plays (suc q) h c = ap (λ (k : ℕ). plays k (downs (suc q) c)) (suc-add q h) ∙ downs-plays q h c
 
--- with k in hand behind them the rest plays
+-- with k in hand after them the rest plays
 pub plays-shape : (p q : ℕ) (c : List ℕ) → plays 0 (ups p (downs q c)) ≡ true → (k : ℕ) × (p ≡ q + k) × (plays k c ≡ true)
 plays-shape p q c o =
     let r = plays-downs q (p + 0) c (sym (plays-ups p 0 (downs q c)) ∙ o) in

@@ -119,7 +119,7 @@ planned : {b c d : List ℕ} (m : Move) → b ≡ c → Inside m (length c) → 
 planned {b} {c} {d} m e inside makes is counts =
     subst (λ (l : List ℕ). Plans l m) (sym e) (record { inside = inside; makes = makes ∙ sym is; counts = counts ∙ ap (changed c) (sym is) })
 
--- the beat behind the found 1
+-- the beat after the found 1
 behind : (b : List ℕ) (x p q : ℕ) (z : List ℕ) → b ≡ ups (suc p) (downs (suc q) (1 ∷ z)) → x ≡ suc p + suc q → getD b (x + 1) 0 ≡ getD z 0 0
 behind b x p q z e ex =
     ap (λ (l : List ℕ). getD l (x + 1) 0) e

@@ -57,7 +57,7 @@ unfolding changed
 changed-downs zero c d = refl
 changed-downs (suc q) c d = omega (arith, changed-downs q c d)
 
--- the 1 behind q zeros and the zero in front of them change places
+-- the 1 after q zeros and the zero in front of them change places
 past-zeros : (q : ℕ) (z : List ℕ) → changed (downs q (1 ∷ z)) (0 ∷ downs q z) ≡ 1
 unfolding changed
 past-zeros q z =

@@ -2,7 +2,7 @@
 -- plan is the rule's next form, so nothing here has to be believed. Definitions only.
 --     Form b            b is a schedule of its own counts
 --     applied           the schedule after the stores of a move: a swap puts a 1 at y and a 0 at x; a dip also moves a
---                       0 from behind x to the second place
+--                       0 from the place after x to the second place
 --     changes           how many beats a move changes
 --     Inside            the places of a move are inside a list of n beats
 --     Plans b m         m makes the next form of b

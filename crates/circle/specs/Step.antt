@@ -1,10 +1,10 @@
 -- The CoolCat rule, the manual, "The step"; source 000, sections 1 and 3. Positions count from 1 here, as there.
 -- Definitions only.
 --     shift k b       the k-th prefix shift: the symbol at k goes to position 2, and position 1 stays [S1]
---     is01 b i        a 0 stands at place i (counted from 0) and a 1 behind it
+--     is01 b i        a 0 stands at place i (counted from 0) and a 1 after it
 --     found b         the position of the 1 of the leftmost 0 followed by 1; past the end where there is none
 --     has01 b         there is a 0 followed by 1
---     movesNext b     the position behind the found 1 is inside, and the shift of it is a schedule
+--     movesNext b     the position after the found 1 is inside, and the shift of it is a schedule
 --     next b          the next form: that shift, or else the shift of the found 1; with no 01 the last symbol moves to
 --                     position 2 if there is a 0, and else b stays [D2a] [S2] [S3]
 --     top t s         t ones and then s zeros

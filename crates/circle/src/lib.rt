@@ -20,7 +20,7 @@ use refusal::Verdict;
 pub const LONGEST_RUN: u64 = 65535;
 
 // What a step does to a schedule: nothing; a 1 stored at the leftmost 0 and a 0 at another place; or
-// these, and the 0 behind the found 1 moved to the second place.
+// these, and the 0 after the found 1 moved to the second place.
 enum Move {
     Stays,
     Swaps(usize, usize),

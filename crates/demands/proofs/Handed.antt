@@ -2,7 +2,7 @@
 --     says       an answer that equals another says what that one says
 --     tells      a reading that equals another tells what that one tells
 --     alone      one lent list that equals another
---     behind     and one behind a list that is only read
+--     behind     and one after a list that is only read
 -- Assumes nothing.
 use mathlib.Core.List.{List, [], _∷_}
 use mathlib.Core.Path.{_≡_, ap}

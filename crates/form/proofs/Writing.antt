@@ -92,7 +92,7 @@ floor-add (suc p) (suc q) h l = rw (sub-one (suc p), sub-one (suc q)) (by q (ome
     by zero h = omega (arith, N-zero p, N-zero (suc p))
     by (suc q) h = N-add p q (omega arith)
 
--- the rank behind one more 1, by the place before it
+-- the rank after one more 1, by the place before it
 raise-place : (p q v : ℕ) → 1 ≤ q → q ≤ p → raise (suc p) q v + 1 ≡ floorOf (suc p) q + placeOf (N p q) v
 unfolding raise floorOf placeOf
 raise-place p zero v h l = absurd (omega arith)

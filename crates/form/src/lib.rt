@@ -1,6 +1,6 @@
 // The form of a number, alone or on a sheet: the manual, "The number" and "Onto the sheet". It is written
 // from the number and the table of counts, and not by walking the circle [M8]. The contracts of the public
-// functions cite specs/Answers of the crate `number`.
+// functions cite specs/Answers.
 ghost use mathlib.Core.Bool.{cond};
 ghost use mathlib.Core.List.{_++_};
 ghost use mathlib.Core.Path.{_≡_};

@@ -134,7 +134,7 @@ pub extern "C" fn gv_run_changed(t: u64, s: u64, beats: &[u8], steps: u64) -> u6
 }
 
 // Lists the order records of one descriptor to another as the packing list does, to the end of the input or
-// behind a 9: 0 where all was listed, 1 where reading failed, 2 where writing failed. [E18]
+// after a 9: 0 where all was listed, 1 where reading failed, 2 where writing failed. [E18]
 #[no_mangle]
 pub extern "C" fn gv_packing_list(from: i32, to: i32) -> u64
     ensures { λ r. ⌜ r ≤ 2 ⌝ }

@@ -61,7 +61,7 @@ longer-1011 : same (1 ∷ 0 ∷ 1 ∷ []) (1 ∷ 0 ∷ 1 ∷ 1 ∷ []) ≡ false
 unfolding changed
 longer-1011 = refl
 
--- the groups: 1 and 2, none; up to s, or to s − 1 if t = s; the zeros behind the 1 of an ending
+-- the groups: 1 and 2, none; up to s, or to s − 1 if t = s; the zeros after the 1 of an ending
 up-to-2 : upTo (λ i. (i ∷ []) ∷ []) 2 ≡ (1 ∷ []) ∷ (2 ∷ []) ∷ []
 unfolding upTo
 up-to-2 = refl
@@ -109,7 +109,7 @@ unsized-1-2 = refl
 unsized-4 : isSized 3 2 (1 ∷ 1 ∷ 0 ∷ 1 ∷ []) ≡ false
 unsized-4 = refl
 
--- behind 110, of a schedule of 3 ones: a 0 may stand; a 2 may not; behind 1 0 no 0 may; behind 1110 no 1 may
+-- after 110, of a schedule of 3 ones: a 0 may stand; a 2 may not; after 1 0 no 0 may; after 1110 no 1 may
 goes-on : goesOn 3 2 1 0 ≡ true
 goes-on = refl
 

@@ -1,4 +1,4 @@
--- The number of a form from its beats: one turn of the loop behind the leftmost 0 followed by 1, on plain values. The beats need not be
+-- The number of a form from its beats: one turn of the loop after the leftmost 0 followed by 1, on plain values. The beats need not be
 -- a schedule: each is tested before it is counted.
 --     sized-parts, parts-sized     what the test of the sizes says
 --     no-rank            what is said of beats that are no schedule
@@ -7,8 +7,8 @@
 --     goes-parts         what the test of a beat says
 --     goes-on            every beat of a schedule passes it
 --     Counted            ups, downs and number are the counts and the rank of the beats before i, which play, and the rank is not 0
---     rise-goes          a schedule's first beat behind its first zeros passes the test
---     counted-rise       behind the found 1
+--     rise-goes          a schedule's first beat after its first zeros passes the test
+--     counted-rise       after the found 1
 --     counted-turn       one beat more
 --     counted-all, counted-short      at the end it is the number of the form, if the ones are t
 --     flat-all, flat-short            ones and then zeros have number 0
@@ -232,7 +232,7 @@ module _ {t : ℕ} {b : List ℕ} {y x : ℕ} where
         risen = omega (arith, two-forms (suc u) d (omega arith));
       }
 
-  -- where nothing stands behind the zeros
+  -- where nothing stands after the zeros
   pub flat-all : Found b y x → x ≡ length b → y ≡ t → {s : ℕ} → s ≤ t → length b ≡ t + s → Schedule t s b × (0 ≡ numberOf t s b)
   unfolding ones zeros
   flat-all (Found·flat u d e ey ex) h all {s} few long =

@@ -1,5 +1,5 @@
 -- The list S by its groups is the circle from the form after t ones then s zeros on.
---     ending-schedule, ending-rank     a front with a 1 and zeros behind it
+--     ending-schedule, ending-rank     a front with a 1 and zeros after it
 --     Run                              the forms of a list have ranks that follow on one another
 --     group-run, groups-run            a group, and the groups one after the other
 --     Placed, S-placed                 S has N(t, s) forms, of the ranks 1, 2, .., N − 1, and 0 at its end
@@ -158,7 +158,7 @@ module _ (t s : ℕ) (m : s ≤ suc t) (all : (i : ℕ) → i ≤ t → Placed t
       run-join (groups n) (map (ending s (suc n)) (S t (suc n))) (groups-run n (omega arith) (omega arith))
       (subst (λ (x : ℕ). Run (suc t) s x (map (ending s (suc n)) (S t (suc n)))) from (group-run t s n (S t (suc n)) h k m (all (suc n) h)))
 
-  -- a run from 0 with t ones then s zeros behind it has all forms
+  -- a run from 0 with t ones then s zeros after it has all forms
   closed : (n : ℕ) → n ≤ t → n ≤ s → N (suc t) n ≡ N (suc t) s → Placed (suc t) s (groups n ++ top (suc t) s ∷ [])
   closed n h k e =
       let g = groups-run n h k in

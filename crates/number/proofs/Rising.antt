@@ -2,8 +2,8 @@
 -- there on that is not 0.
 --     split        the beats are y ones, then zeros up to x, then the rest
 --     split-take   so the beats before x are these ones and zeros
---     flat-found   nothing stands behind the zeros
---     rise-found   a 1 stands behind the zeros, of which there is one at least and no more than there are ones
+--     flat-found   nothing stands after the zeros
+--     rise-found   a 1 stands after the zeros, of which there is one at least and no more than there are ones
 -- Assumes nothing.
 use mathlib.Core.List.{List, [], _∷_}
 use mathlib.Core.Path.{_≡_, refl, _∙_, ap, ap₂, sym}

@@ -1,7 +1,7 @@
 -- Parts of the way from a form to its number, for the contracts of private functions. Nothing here has to be believed.
 -- Definitions only.
 --     isSized t s b            the counts are allowed, and the beats are as many as they say
---     goesOn t p q beat        the beat may stand behind p ones and q zeros of a schedule of t ones
+--     goesOn t p q beat        the beat may stand after p ones and q zeros of a schedule of t ones
 --     Ranks t s b whole n      whole exactly if b is a schedule of allowed counts, and then n is its number
 use mathlib.Core.Bool.{Bool, true, false, _&&_}
 use mathlib.Core.List.{List}

@@ -13,7 +13,7 @@ use refusal::Verdict;
 use schedule::wide;
 use triangle::SIDE;
 
-// What a beat behind ups ones and downs zeros, not all ones before all zeros, adds to the number. No
+// What a beat after ups ones and downs zeros, not all ones before all zeros, adds to the number. No
 // branch goes by the beat, which could not be predicted.
 fn growth(rows: &[[u64; SIDE]], ups: u64, downs: u64, beat: u64) -> u64
     requires { ⌜ Counts (now rows) × (ups + beat ≤ largest) × (1 ≤ downs) × (downs ≤ ups) × (beat ≤ 1) ⌝ }
@@ -35,7 +35,7 @@ fn sized(t: u64, s: u64, beats: &[u8]) -> bool
     beats.len() as u64 == t + s
 }
 
-// Whether a beat may stand behind ups ones and downs zeros of a schedule of t ones.
+// Whether a beat may stand after ups ones and downs zeros of a schedule of t ones.
 fn fits(t: u64, ups: u64, downs: u64, beat: u64) -> bool
     requires { ⌜ ups ≤ mostBeats ⌝ }
     ensures { λ r. ⌜ r ≡ goesOn t ups downs beat ⌝ }
@@ -66,7 +66,7 @@ fn unranked() -> Ranked
 }
 
 // The number of a schedule: 0 for ones and then zeros; else that of the beats up to the 1 of the
-// leftmost 0 followed by 1, and what each beat behind it adds. The beats are tested as they are read.
+// leftmost 0 followed by 1, and what each beat after it adds. The beats are tested as they are read.
 fn rank(rows: &[[u64; SIDE]], t: u64, s: u64, beats: &[u8]) -> Ranked
     requires { ⌜ Counts (now rows) ⌝ }
     ensures { λ r. ⌜ Ranks t s (now (beats .entry)) (r .whole) (r .number) ⌝ }

@@ -69,7 +69,7 @@ whole-list : packingList orders ≡ lines
 unfolding listFrom valueOf tabulate N digits decimal beatText every firstFrom ones zeros isSchedule shift found has01 movesNext next steps changed
 whole-list = refl
 
--- with a byte behind them that is no record: refused 9 0, and the list ends
+-- with a byte after them that is no record: refused 9 0, and the list ends
 cut-list : packingList (orders ++ 12 ∷ []) ≡ lines ++ 114 ∷ 101 ∷ 102 ∷ 117 ∷ 115 ∷ 101 ∷ 100 ∷ 32 ∷ 57 ∷ 32 ∷ 48 ∷ 10 ∷ []
 unfolding listFrom valueOf tabulate N digits decimal beatText every firstFrom ones zeros isSchedule shift found has01 movesNext next steps changed
 cut-list = refl

@@ -1,5 +1,5 @@
 -- What the packing list prints of an input, beyond the contracts.
---     line-own         the line of a record depends on no byte behind it
+--     line-own         the line of a record depends on no byte after it
 --     pieces-list      however an input is cut into pieces, the texts of the passes one after the other are its packing list [E15]
 -- Assumes nothing.
 use mathlib.Core.Bool.{false}

@@ -133,7 +133,7 @@ fn run(
     state.answer
 }
 
-// [E12] Lists the records of one descriptor to another, to the end of the input or behind a 9. Answers 0 where all
+// [E12] Lists the records of one descriptor to another, to the end of the input or after a 9. Answers 0 where all
 // was listed, 1 where reading failed and 2 where writing failed; errno then has the system's reason.
 pub fn list_all(from: i32, to: i32) -> u64
     ensures { λ r. ⌜ r ≤ 2 ⌝ }

@@ -2,7 +2,7 @@
 --     numbered-long, numbered-answer, numbered-left     kind 1: L is 12; then the verdict on its number decides
 --     beaten-long, beaten-answer, beaten-left           kind 2: L is at least 4; then the counts, the exact L, the bits and the beats decide
 --     read-room, read-cut, read-tiny, read-unknown      the refusals before the kind, in their order
---     read-kind            behind them the rows of the kind decide
+--     read-kind            after them the rows of the kind decide
 -- Assumes nothing.
 use mathlib.Core.Bool.{Bool, true, false, not}
 use mathlib.Core.List.{List, _∷_, _++_}

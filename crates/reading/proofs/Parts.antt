@@ -42,7 +42,7 @@ six (x₀ ∷ (x₁ ∷ (x₂ ∷ (x₃ ∷ [])))) h = absurd (omega arith)
 six (x₀ ∷ (x₁ ∷ (x₂ ∷ (x₃ ∷ (x₄ ∷ []))))) h = absurd (omega arith)
 six (x₀ ∷ (x₁ ∷ (x₂ ∷ (x₃ ∷ (x₄ ∷ (x₅ ∷ src)))))) h = refl
 
--- beats behind which nothing more is set spell a multiple
+-- beats after which nothing more is set spell a multiple
 spell-zeros : (c : List ℕ) (m d : ℕ) → ((r : ℕ) → m ≤ r → getD c r 0 ≡ 0) → spell (m + d) c ≡ 2 ^ d * spell m c
 unfolding spell
 spell-zeros c m zero f = let same : m + 0 ≡ m = omega arith in ap (λ (j : ℕ). spell j c) same ∙ omega arith

@@ -44,7 +44,7 @@ use Rattle.reading.proofs.Answering.{numbered-fits, beaten-fits, read-k
 use Rattle.reading.proofs.Parts.{parts-of, six, unused-packed, read-facts}
 use Rattle.reading.proofs.Meaning.{numbered-facts, beaten-facts}
 
--- a record that was written, with something behind it
+-- a record that was written, with something after it
 module _ (kind t s : ℕ) (b rest : List ℕ) (a : Allowed t s) (q : Schedule t s b) where
   abbrev p : List ℕ
   p = payload (kindOf kind) t s b

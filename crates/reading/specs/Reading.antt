@@ -2,7 +2,7 @@
 -- `record`. Definitions only.
 --     told             an answer by the verdict: counts, number and 2 + L; or the refusal, and the bytes consumed
 --     reading          the answer to a record of a kind
---     leaving          what the lent slice holds afterwards: the schedule, and behind it what was there; refused, what
+--     leaving          what the lent slice holds afterwards: the schedule, and after it what was there; refused, what
 --                      was there
 --     readAnswer, readLeft     the same of a slice that starts at a record
 --     Whole            what is known before the kind is looked at

@@ -1,7 +1,7 @@
 -- Writing a record.
 --     headed               the six bytes in front of the payload, stored one by one
 --     numbered-size, beaten-size         how long a record of each kind is
---     record-made          head and payload make the record, and what was behind stays
+--     record-made          head and payload make the record, and what was after stays
 --     write-refused, write-short, write-taken     the verdict on writing a known kind, from the check's
 --     write-unknown, write-kind          the kind's row in front of the others
 --     kind-other           a number that is no kind's
@@ -36,7 +36,7 @@ headed (x₀ ∷ (x₁ ∷ (x₂ ∷ (x₃ ∷ [])))) a b c d e f h = absurd (om
 headed (x₀ ∷ (x₁ ∷ (x₂ ∷ (x₃ ∷ (x₄ ∷ []))))) a b c d e f h = absurd (omega arith)
 headed (x₀ ∷ (x₁ ∷ (x₂ ∷ (x₃ ∷ (x₄ ∷ (x₅ ∷ xs)))))) a b c d e f h = refl
 
--- head and payload, and what was behind them
+-- head and payload, and what was after them
 made : (kind t s : ℕ) (p out x : List ℕ) → x ≡ lowFirst 2 (4 + length p) ++ (lowFirst 2 kind ++ (t ∷ (s ∷ drop 6 out)))
     → take 6 x ++ (p ++ drop (length p) (drop 6 x)) ≡ (lowFirst 2 (4 + length p) ++ (lowFirst 2 kind ++ (t ∷ (s ∷ p)))) ++ drop (6 + length p) out
 unfolding lowFirst

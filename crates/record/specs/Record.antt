@@ -1,9 +1,9 @@
 -- Order records, the manual, "Order record" and "Refusal numbers" (Order: reading, writing). Definitions only.
 --     A record, written:
---     payload          what a record of a kind has behind its counts: the number (kind 1), or the packed beats (kind 2)
+--     payload          what a record of a kind has after its counts: the number (kind 1), or the packed beats (kind 2)
 --     recordOf         the bytes of a record: its length, its kind, its counts, its payload [O5] [B2]
 --     writeRows        the refusals of writing, in their order: 10, 1, 2, 3, 4, 5, 6, 12 [R19]
---     writeAnswer, writeLeft     what writing answers, 2 + L, and leaves: the record, and behind it what was there;
+--     writeAnswer, writeLeft     what writing answers, 2 + L, and leaves: the record, and after it what was there;
 --                                kindAnswer and kindLeft
 --                      where the kind is known
 --     A record, read:

@@ -1,8 +1,8 @@
 -- The verdict of an order that goes on.
---     judge-refused      what the first rows refuse stays refused with more rows behind them
---     judge-accepted     where the first rows accept, the rows behind them decide
+--     judge-refused      what the first rows refuse stays refused with more rows after them
+--     judge-accepted     where the first rows accept, the rows after them decide
 --     both               a verdict is not an accepting and a refusing one
---     judge-front, judge-back     what an order accepts, its first rows accept, and the rows behind them
+--     judge-front, judge-back     what an order accepts, its first rows accept, and the rows after them
 -- Assumes nothing.
 use mathlib.Core.Bool.{true, false}
 use mathlib.Core.List.{List, [], _∷_, _++_}

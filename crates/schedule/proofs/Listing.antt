@@ -1,4 +1,4 @@
--- A list of all schedules of t, s, by their last beat: those of t−1, s with a 1 behind them, then those of t, s−1 with a 0.
+-- A list of all schedules of t, s, by their last beat: those of t−1, s with a 1 after them, then those of t, s−1 with a 0.
 --     map-lists        a list of all that P holds of, mapped to all that Q holds of
 --     joined-lists     the two parts of the list together
 --     schedules t s    the list
@@ -70,7 +70,7 @@ module _ (a c : List (List ℕ)) where
       ∙ getD-append-add (map (λ (r : List ℕ). 1 ∷ r) a) (map (λ (r : List ℕ). 0 ∷ r) c) j []
       ∙ map-at (λ (r : List ℕ). 0 ∷ r) c j h
 
--- a list that ends in a 1 behind what P holds of, or in a 0 behind what Q holds of
+-- a list that ends in a 1 after what P holds of, or in a 0 after what Q holds of
 data Ends (P Q : List ℕ → Type 0) : List ℕ → Type 0 where
   in-one : {r : List ℕ} → P r → Ends P Q (1 ∷ r)
   in-zero : {r : List ℕ} → Q r → Ends P Q (0 ∷ r)

@@ -1,4 +1,4 @@
--- What a record is judged by: its own bytes, and none behind them.
+-- What a record is judged by: its own bytes, and none after them.
 --     cut-ends         a record that is cut is refused with 9: the list ends, and nothing is passed over
 --     whole-goes       any other record is passed over whole, and the list goes on
 --     verdict-alone    what follows a settled record does not change the verdict on it
@@ -33,7 +33,7 @@ use Rattle.reading.proofs.Parts.{read-facts}
 use Rattle.stream.specs.Stream.{verdictOn, passing, passed, ending, ends, settled}
 use Rattle.stream.proofs.Fronts.{settled-whole}
 
--- a refusal after which the list goes on behind the record
+-- a refusal after which the list goes on after the record
 abbrev Goes : Refusal → Type 0
 Goes why = ((l : ℕ) → eaten why l ≡ 2 + l) × (eqb (numberOf why) 9 ≡ false)
 

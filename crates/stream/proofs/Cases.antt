@@ -84,7 +84,7 @@ empty-list : listOf bell [] ≡ []
 unfolding listFrom
 empty-list = refl
 
--- behind a length of 1,021 nothing is listed, whatever stands there
+-- after a length of 1,021 nothing is listed, whatever stands there
 nine-list : listOf bell (253 ∷ 3 ∷ 0 ∷ 0 ∷ 0 ∷ 0 ∷ []) ≡ 7 ∷ []
 unfolding listFrom valueOf
 nine-list = refl
@@ -238,7 +238,7 @@ exchanged = record { inside = record { unread = omega arith; held = omega arith 
 exchanged-outside : Exchanged (4 ∷ 5 ∷ 0 ∷ []) (standing 0 2) (stopped Front.Record) (4 ∷ 5 ∷ 0 ∷ []) (standing 2 1) → ⊥
 exchanged-outside p = omega (arith, p .inside .unread)
 
--- a record printed: its line, and behind it what was there
+-- a record printed: its line, and after it what was there
 printed-whole : Prints bell (0 ∷ 0 ∷ []) (1 ∷ 2 ∷ []) (record { consumed = 2; bytes = 1; last = false }) (7 ∷ 2 ∷ [])
 unfolding valueOf
 printed-whole = record { record-size = refl; line-size = refl; ending = refl; written = refl }

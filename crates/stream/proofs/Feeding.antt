@@ -1,4 +1,4 @@
--- The unread bytes moved to the front, and a read behind them.
+-- The unread bytes moved to the front, and a read after them.
 --     refill-lost      a read that failed: the unread bytes are as they were
 --     refill-got       a read that brought some, or none at the end of the input
 -- Assumes nothing.

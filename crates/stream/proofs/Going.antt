@@ -1,12 +1,12 @@
 -- The loop of a pass: records listed one after the other.
 --     tail, tail-is    the part of a list from an index on, as it is lent
---     Going            the records before `at` are listed, their lines stand before `put`, and what stood behind them stands there; whatever
+--     Going            the records before `at` are listed, their lines stand before `put`, and what stood after them stands there; whatever
 --                      the rest of the pass lists follows those lines
 --     going-start      before the first record
 --     going-more       one record more
 --     going-fits       its line fits
 --     going-less       the bytes that are left are fewer then
---     going-rests, going-last     the pass stops: before a record, or behind the line of a 9
+--     going-rests, going-last     the pass stops: before a record, or after the line of a 9
 -- Assumes nothing.
 use mathlib.Core.Bool.{Bool, true, false}
 use mathlib.Core.List.{List, _++_, append-nil, append-assoc}
@@ -58,7 +58,7 @@ module _ (line : List ℕ → List ℕ) (widest : ℕ) (ended : Bool) (src out :
         written = sym (take-append-drop put now) ∙ ap (λ (l : List ℕ). take put now ++ l) (g .rest ∙ ap (λ (j : ℕ). drop j out) (sym size));
       }
 
-  -- a record was printed behind the lines
+  -- a record was printed after the lines
   module _ {at put : ℕ} {now : List ℕ} (g : Going at put now) {printed : Printed} {part after : List ℕ}
       (p : Prints line (tail src at) (tail now put) printed part) (a : after ≡ take put now ++ (part ++ drop (length now - put) (drop put now)))
       (same : length after ≡ length now) where

@@ -2,7 +2,7 @@
 --     list-none        of no bytes there is no line
 --     list-last        the line of a 9 is the last
 --     list-more        any other line is followed by the list of what follows its record
---     passed-some      a record behind which the list goes on takes some bytes
+--     passed-some      a record after which the list goes on takes some bytes
 --     passed-within    no more is passed over than is there
 -- Assumes nothing.
 use mathlib.Core.Bool.{Bool, true, false, cond, true≢false}
@@ -16,7 +16,7 @@ use Rattle.reading.proofs.Heads.{whole-long}
 use Rattle.stream.specs.Stream.{passed, ends, listFrom, listOf}
 use Rattle.stream.proofs.Alone.{cut-ends, whole-goes}
 
--- a record behind which the list goes on takes two bytes at least
+-- a record after which the list goes on takes two bytes at least
 goes-whole : (src : List ℕ) → ends src ≡ false → cut src ≡ false
 goes-whole src e = by (cut src) refl
   where

@@ -5,7 +5,7 @@
 --     pass-list        the lines of a pass and then the list of what it leaves are the list of what it was given, whatever follows: a pass
 --                      loses nothing, says nothing twice and consumes whole records only [E16]
 --     listing-list     however an input is cut into pieces, the texts of the passes one after the other are the list of the whole [E15]
---     turn-over, turn-on     turns that follow each other list an input so: the last one, and one with others behind it
+--     turn-over, turn-on     turns that follow each other list an input so: the last one, and one with others after it
 -- Assumes nothing.
 use mathlib.Core.Bool.{Bool, true, false, true≢false, false≢true}
 use mathlib.Core.List.{List, [], _∷_, _++_, append-nil, append-assoc}
@@ -84,7 +84,7 @@ module _ (line : List ℕ → List ℕ) (own : Own line) where
         same-left = ap (λ (n : ℕ). drop n (src ++ rest)) (passed-alone src rest fixed) ∙ drop-append-le (passed src) src rest (passed-within src);
       }
 
-  -- what is still to be listed behind a pass: nothing where the list is over
+  -- what is still to be listed after a pass: nothing where the list is over
   abbrev pub onwards : Front → List ℕ → List ℕ
   onwards Front.Record src = listOf line src
   onwards Front.Short src = listOf line src

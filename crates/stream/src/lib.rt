@@ -41,7 +41,7 @@ pub struct Pass {
     pub front: Front,
 }
 
-// Where a program stands: unread bytes from `at` up to `have`, whether the input has ended behind them, whether
+// Where a program stands: unread bytes from `at` up to `have`, whether the input has ended after them, whether
 // to go on, and what to answer at the end.
 pub struct Stream {
     pub at: usize,
@@ -65,7 +65,7 @@ fn settled(src: &[u8]) -> bool
     2 + long <= src.len() as u64
 }
 
-// What stands at the front of the unread bytes, where the input has ended behind them or not.
+// What stands at the front of the unread bytes, where the input has ended after them or not.
 pub fn at_front(window: &[u8], ended: bool) -> Front
     ensures { λ r. ⌜ r ≡ frontOf ended (now (window .entry)) ⌝ }
 {

@@ -78,7 +78,7 @@ fn slide(input: &mut [u8], from: usize, count: usize)
     }
 }
 
-// Moves the unread bytes to the front and reads once behind them.
+// Moves the unread bytes to the front and reads once after them.
 fn refill(from: i32, input: &mut [u8], at: usize, have: usize) -> Stream
     requires { ⌜ Room (now input) at have ⌝ }
     ensures { λ r. ⌜ Refilled (now (input .entry)) at have (now (input .exit)) r ⌝ }

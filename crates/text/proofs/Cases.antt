@@ -55,7 +55,7 @@ not-empty q = omega (arith, q .some)
 no-zero-first : Spells 7 (48 ∷ 55 ∷ []) → ⊥
 no-zero-first q = omega (arith, q .first (omega arith))
 
--- a piece of two bytes from 1 on; one that changes the byte behind it; one that answers the index of its last byte
+-- a piece of two bytes from 1 on; one that changes the byte after it; one that answers the index of its last byte
 written-3 : Written 1 (49 ∷ 50 ∷ []) (7 ∷ 7 ∷ 7 ∷ 7 ∷ []) (7 ∷ 49 ∷ 50 ∷ 7 ∷ []) 3
 written-3 = record { text = refl; end = refl }
 

@@ -35,7 +35,7 @@ first-of n [] h q = absurd (omega (arith, q .some))
 first-of n (x ∷ []) h q = omega (arith, q .value)
 first-of n (x ∷ y ∷ d) h q = q .first (omega arith)
 
--- what spells the tenth, with the last digit behind it
+-- what spells the tenth, with the last digit after it
 spells-more : (n : ℕ) (d : List ℕ) → 10 ≤ n → Spells (n / 10) d → Spells n (d ++ (48 + n % 10) ∷ [])
 unfolding digitsValue
 spells-more n d h q =
@@ -70,7 +70,7 @@ spells-within (suc j) n h =
 pub decimal-spells : (n : ℕ) → Spells n (decimal n)
 decimal-spells n = spells-within (suc n) n (omega arith)
 
--- digits behind a number that is not 0 go behind its decimal
+-- digits after a number that is not 0 go after its decimal
 decimal-join : (v : ℕ) (d : List ℕ) → 1 ≤ v → ((k : ℕ) → k < length d → (48 ≤ getD d k 0) × (getD d k 0 ≤ 57))
     → decimal (digitsValue v d) ≡ decimal v ++ d
 unfolding digitsValue

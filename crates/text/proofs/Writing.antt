@@ -21,7 +21,7 @@ use Rattle.text.proofs.Digits.{decimal-one, decimal-more, length-more, 
 pub written-put : (byte at : ℕ) (xs : List ℕ) → at < length xs → Written at (byte ∷ []) xs (set xs at byte) (at + 1)
 written-put byte at xs h = record { text = rw (add-one, append-snoc) (set-split xs at byte h); end = refl }
 
--- what a written piece leaves, cut behind the piece
+-- what a written piece leaves, cut after the piece
 module _ {at r : ℕ} {p xs ys : List ℕ} (h : at ≤ length xs) (w : Written at p xs ys r) where
   head-length : length (take at xs ++ p) ≡ at + length p
   head-length = length-append (take at xs) p ∙ ap (λ (k : ℕ). k + length p) (length-take-le at xs h)

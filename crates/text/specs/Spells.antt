@@ -1,5 +1,5 @@
 -- What it means that a text is a number in decimal, as the manual says of the numbers of a line. Definitions only.
---     digitsValue v d     the number that the digits d say behind those of v; from v = 0 on, the number that they say
+--     digitsValue v d     the number that the digits d say after those of v; from v = 0 on, the number that they say
 --     Spells n d          d is one digit or more, they say n, and the first of several is not 0
 use mathlib.Core.List.{List, [], _∷_}
 use mathlib.Core.Path.{_≡_}

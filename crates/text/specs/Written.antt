@@ -1,5 +1,5 @@
--- What the parts of a line leave when they are written one behind the other. Definitions only.
---     Written     a piece is written from the index at on; what stood before and behind it stays; r is the index behind
+-- What the parts of a line leave when they are written one after the other. Definitions only.
+--     Written     a piece is written from the index at on; what stood before and after it stays; r is the index after
 --                 it
 use mathlib.Core.List.{List, _++_}
 use mathlib.Core.Path.{_≡_}

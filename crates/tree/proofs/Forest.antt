@@ -1,4 +1,4 @@
--- Trees that stand side by side, numbered one behind the other.
+-- Trees that stand side by side, numbered one after the other.
 --     each            what f gives for each tree, joined; the numbers go on from tree to tree
 --     words, sizes    the words joined; all their nodes
 --     forest-count    there are as many trees as their words have zeros beyond their ones
@@ -75,7 +75,7 @@ module _ (k : ℕ) (a b : Tree) (ts : List Tree) where
   unfolding each parents
   parent-node = ap (λ (w : List ℕ). 0 ∷ w) (join (parents 0) (parents k (suc k) a) (parents k (suc k + size a) b))
 
--- the node v becomes the parent of the tree that stands behind some entries
+-- the node v becomes the parent of the tree that stands after some entries
 pub adopt-at : (t : Tree) (q v k : ℕ) (front back : List ℕ) → k ≡ suc (length front)
     → adopted (root k t) v (front ++ (parents q k t ++ back)) ≡ front ++ (parents v k t ++ back)
 unfolding root parents

@@ -56,7 +56,7 @@ front-schedule t =
     (omega (arith, ones-word t, ap ones (word-front t), ones-append (front t) (0 ∷ [])))
     (omega (arith, zeros-word t, ap zeros (word-front t), zeros-append (front t) (0 ∷ [])))
 
--- the trees whose words, one behind the other, make the list
+-- the trees whose words, one after the other, make the list
 unfoldable grow : List Tree → List Tree
 grow [] = []
 grow (a ∷ []) = []

@@ -39,7 +39,7 @@ fn plant(left: &mut [u8], right: &mut [u8], parent: &mut [u8], row: usize, first
 }
 
 // Fills the tables of a closed schedule, from its last beat to its first. The stack has the roots of the
-// trees behind the beat, the nearest on top; at first the one leaf that the schedule leaves out.
+// trees after the beat, the nearest on top; at first the one leaf that the schedule leaves out.
 fn fill(beats: &[u8], left: &mut [u8], right: &mut [u8], parent: &mut [u8])
     requires { ⌜ (length (now left) ≤ largest) × (length (now right) ≡ length (now left))
         × (length (now parent) ≡ length (now left)) × Schedule (length (now left)) (length (now left)) (now beats) ⌝ }

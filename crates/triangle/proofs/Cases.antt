@@ -37,7 +37,7 @@ entry-28 = refl
 entry-572 : at 8 5 ≡ 572
 entry-572 = refl
 
--- the count of (2,1) stands behind those of (0,0), (1,0), (1,1) and (2,0); that of (0,0) is the first
+-- the count of (2,1) stands after those of (0,0), (1,0), (1,1) and (2,0); that of (0,0) is the first
 place-4 : place 2 1 ≡ 4
 place-4 = refl
 

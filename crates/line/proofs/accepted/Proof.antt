@@ -1,4 +1,4 @@
--- `line::accepted` meets its contract: each part of the line is written behind the one before. Assumes nothing.
+-- `line::accepted` meets its contract: each part of the line is written after the one before. Assumes nothing.
 use mathlib.Core.Logic.{⊎-elim}
 use mathlib.Core.Path.{_≡_, _∙_}
 use Prim.Native.Nat.{_≤_, _<_}

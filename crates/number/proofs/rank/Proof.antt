@@ -90,7 +90,7 @@ fits-requires c κs =
     let scanned = c .before .before .before in
     omega (arith, first scanned .high, sizes scanned .0 .0, sizes scanned .0 .1, sizes scanned .1)
 
--- the beat behind the first zeros was tested
+-- the beat after the first zeros was tested
 module _ (c : tie.After-fits2 Inv-loop μ-loop) where
   abbrev scans : tie.After-skip2 Inv-loop μ-loop
   scans = c .before .before .before .before

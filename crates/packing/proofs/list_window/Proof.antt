@@ -1,5 +1,5 @@
 -- `list_window` meets its contract. The loop's invariant is `Going`: the records before `at` are listed, and whatever the rest of the pass
--- lists follows their lines. The measure is the bytes behind `at`: every record that is passed over takes some. Assumes nothing.
+-- lists follows their lines. The measure is the bytes after `at`: every record that is passed over takes some. Assumes nothing.
 use mathlib.Core.Bool.{Bool, true, false}
 use mathlib.Core.List.{List, [], _∷_}
 use mathlib.Core.Logic.{⊎-elim}
