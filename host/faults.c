@@ -14,7 +14,7 @@
  *     less=SEED      moves at least 1 to 16 bytes less, at random
  * A call moves one byte at least. Of several rules for one call, interruptions come first.
  *
- * A line of the log is: CALL, its number, the bytes asked for, the answer, errno or 0, the word of HOW or a dash.
+ * A line of the log is: CALL, its number, the bytes asked for, the answer, errno or 0, the word of HOW or a dash. [E17]
  */
 #define _GNU_SOURCE
 #include <errno.h>

@@ -1,7 +1,7 @@
 """Faults put into the calls of the packing list, by host/faults.c: every read and every write is made to fail, to move fewer bytes and to
 be interrupted, one after the other, and all of them at once. Each part yields for every run that was as it should be.
 
-A fault that was asked for and did not happen is a difference too.
+A fault that was asked for and did not happen is a difference too. [E17]
 """
 import contextlib
 import errno

@@ -142,7 +142,7 @@ def place_of(t, s, beats):
 
 
 def form_of(t, s, n):
-    """The form of a number below N(t, s): the list turned by one, so that its last form has the number 0."""
+    """The form of a number below N(t, s): the list turned by one, so that its last form has the number 0. [E7b]"""
     return listed(t, s, (n - 1) % forms(t, s))
 
 

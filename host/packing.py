@@ -1,5 +1,5 @@
 #!/usr/bin/env python3
-"""The packing list of the manual once more, on top of the oracle, for the tests: host/packing.py < records > lines.
+"""The packing list of the manual once more, on top of the oracle, for the tests [E11]: host/packing.py < records > lines.
 
 line_of(data, at) reads the record that starts at data[at:], in the reading order of the document; lines(data) is the whole list.
 record(kind, t, s, beats) makes a record's bytes. The slice that a reader lends is taken to be large enough, so there is no 12.

@@ -4,7 +4,7 @@
  * Lists the order records of FILE, or of standard input, to standard output, by the library's gv_packing_list.
  * The first thing that fails is told on standard error in one line: the program, what failed, the system's
  * reason [E17]. The status is 0 when all was listed, 1 when reading failed, 2 when writing failed or the call is
- * wrong [E19].
+ * wrong [E19]. [W2]
  */
 #define _POSIX_C_SOURCE 200809L
 #include <ctype.h>
@@ -64,7 +64,7 @@ static void tell(const char *what, const char *name, const char *rest) {
         (void)put(STDERR_FILENO, line, (size_t)length);
 }
 
-/* Tells of a call of the system that failed, by errno, which is 0 where a write took no byte. */
+/* Tells of a call of the system that failed, by errno, which is 0 where a write took no byte. [E17] */
 static void tell_failure(const char *what, const char *name) {
     char rest[128];
     snprintf(rest, sizeof rest, ": %s", errno == 0 ? "no byte was taken" : strerror(errno));

@@ -65,6 +65,7 @@ def counts_of(t):
     return " ".join(map(str, row))
 
 
+# [P8]
 def lists_of(t):
     t = int(t)
     found = []
@@ -137,7 +138,7 @@ def changed(t, s, text):
 
 
 def both(t, s):
-    """Every form by its number: the circle as it is walked, which is also what the groups of the list give, both ways."""
+    """Every form by its number: the circle as it is walked, which is also what the groups of the list give, both ways. [E7b]"""
     t, s = int(t), int(s)
     forms = circle(t, s)
     sure(forms == [oracle.form_of(t, s, n) for n in range(len(forms))], "the circle is not the list of the groups")
@@ -153,7 +154,7 @@ def chosen(n):
 
 
 def ends(t, s):
-    """The last number, the refusal of the next one, and the digest of some forms, each of which has its number."""
+    """The last number, the refusal of the next one, and the digest of some forms, each of which has its number. [E7b]"""
     t, s = int(t), int(s)
     n = oracle.forms(t, s)
     forms = [oracle.form_of(t, s, x) for x in chosen(n)]

@@ -4,6 +4,7 @@ row | definition | what it says | inside | outside |, and each reference there i
 
 Of a predicate (Type-valued) and of a test (Bool-valued) the theorems are its own and take the right side: a predicate's outside
 denies it (→ ⊥), a test's inside is ≡ true and its outside ≡ false. Of any other definition the two columns differ.
+[P14]
 """
 import re
 import sys

@@ -2,7 +2,7 @@
 """Holds the packing list to what it owes where reading or writing fails: it says so in one line, its status tells, and no line is lost.
 
 Both programs of host/listing.py are run: with devices, descriptors, pipes and files as a user may hand them over, and with the faults of
-host/injected.py. Prints a line for each part, and ends with status 1 at the first difference.
+host/injected.py. Prints a line for each part, and ends with status 1 at the first difference. [E17]
 """
 import contextlib
 import errno

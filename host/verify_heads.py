@@ -5,33 +5,16 @@ of it gives is defined in the file below. Words after a name are its arguments; 
 in .. stands for several. Where one space alone is after the names they are the words up to the first without a comma; a line there that
 is a sentence, from a capital to a full stop or a colon, gives none. A file of specs/ that is not written by a script gives a name.
 """
-import re
 import sys
 
-from verifying import ROOT, contents, defined, ended, verdict
+from verifying import ROOT, defined, ended, entries, head_of, verdict
 
-LISTED = re.compile(r"--     (?=\S)(.*)")
-APART = re.compile(r"(.*?)\s{2,}\S.*")
-SENTENCE = re.compile(r"[A-Z].*[.:]")
-WORDS = re.compile(r"[^\s,]+(?:, [^\s,]+)*")
 WRITTEN = "not edited by hand"
-
-
-def head_of(path):
-    lines = contents(path).splitlines()
-    length = next((at for at, line in enumerate(lines) if not line.startswith("--")), len(lines))
-    return lines[:length]
 
 
 def names(head):
     """What the lines of a head list, each with its arguments."""
-    for line in head:
-        listed = LISTED.fullmatch(line)
-        apart = listed and APART.fullmatch(listed.group(1))
-        if apart:
-            yield from apart.group(1).split(", ")
-        elif listed and not SENTENCE.fullmatch(listed.group(1)):
-            yield from WORDS.match(listed.group(1)).group().split(", ")
+    return [name for line in head for name in entries(line)]
 
 
 def is_there(listed, own):
@@ -43,7 +26,7 @@ def is_there(listed, own):
 
 def faults(path):
     head = head_of(path)
-    listed = [*names(head)]
+    listed = names(head)
     if not head:
         yield "has no head"
     elif "/specs/" in path and not listed and WRITTEN not in head[0]:
@@ -58,7 +41,7 @@ def main():
     files = [path for part in ("specs", "proofs") for path in sorted(ROOT.glob(f"crates/*/{part}/**/*.antt")) if path.name != "Lib.antt"]
     paths = [str(path.relative_to(ROOT)) for path in files]
     found = [f"{path} {fault}" for path in paths for fault in faults(path)]
-    listed = sum(len([*names(head_of(path))]) for path in paths)
+    listed = sum(len(names(head_of(path))) for path in paths)
     return verdict(found, listed and len(files), f"heads, which list {listed} names")
 
 

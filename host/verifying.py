@@ -116,6 +116,30 @@ def defined(path):
     return names.union(*(re.findall(member, body, re.M) for body in re.findall(block, text, re.M)))
 
 
+# The head of a file of specs/ or proofs/, whose lines give names: host/verify_heads.py says how.
+
+LISTED = re.compile(r"--     (?=\S)(.*)")
+APART = re.compile(r"(.*?)\s{2,}\S.*")
+SENTENCE = re.compile(r"[A-Z].*[.:]")
+WORDS = re.compile(r"[^\s,]+(?:, [^\s,]+)*")
+
+
+def head_of(path):
+    """The comment that a file begins with, by lines."""
+    lines = contents(path).splitlines()
+    length = next((at for at, line in enumerate(lines) if not line.startswith("--")), len(lines))
+    return lines[:length]
+
+
+def entries(line):
+    """What a line of a head lists, each with its arguments."""
+    listed = LISTED.fullmatch(line)
+    apart = listed and APART.fullmatch(listed.group(1))
+    if apart:
+        return apart.group(1).split(", ")
+    return WORDS.match(listed.group(1)).group().split(", ") if listed and not SENTENCE.fullmatch(listed.group(1)) else []
+
+
 # The tables of a document.
 
 PLACE = re.compile(r"`([\w./-]+)(?:#([^`]+))?`")

@@ -80,7 +80,7 @@ uint64_t gv_version(void);
  * Answers a text for each refusal and for GV_ACCEPTED, and "unknown refusal" for any other number: one line of
  * ASCII without its line end, and never NULL. The bytes are the library's; nobody writes or frees them, and they
  * stay as long as it is loaded. A later version may word them otherwise.
- * In: refusal. It is the one function that is written in C, and not proved.
+ * In: refusal. It is the one function that is written in C, and not proved. [E20]
  */
 const char *gv_refusal_text(uint64_t refusal);
 

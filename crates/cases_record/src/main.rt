@@ -1,7 +1,7 @@
 // Writes order records and reads them: the manual, "Order record". Some forms are written in both kinds and
 // read back in full, all forms of the small counts and some of every larger pair in digests, and both ways are
 // asked on both sides of every refusal. The file stdout says what it must print; each line of it is worked out
-// again by host/oracle.py and host/packing.py, without this code.
+// again by host/oracle.py and host/packing.py, without this code. [D1e] [D1c] [B3] [R13] [R20] [R19]
 mod asks;
 mod backs;
 mod changes;

@@ -1,6 +1,6 @@
 // Walks the circles of small counts and runs the examples of the manual, "The step" and "Easy to get
 // wrong", and the fourteen words of Figure 2.3 of source 001. The file stdout says what it must print;
-// each line of it is worked out again by host/oracle.py, without this code.
+// each line of it is worked out again by host/oracle.py, without this code. [A6] [S6] [R6] [P9] [E6] [E5]
 mod circles;
 mod runs;
 

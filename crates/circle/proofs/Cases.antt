@@ -22,7 +22,7 @@ use Rattle.circle.specs.Answers.{runRows}
 use Rattle.circle.proofs.Circle.{steps-schedule}
 use Rattle.circle.proofs.Theorems.{circle}
 
--- the third and the fourth prefix shift of 11010: the symbol goes to position 2
+-- the third and the fourth prefix shift of 11010: the symbol goes to position 2 [S1]
 shift-3 : shift 3 (1 ∷ 1 ∷ 0 ∷ 1 ∷ 0 ∷ []) ≡ 1 ∷ 0 ∷ 1 ∷ 1 ∷ 0 ∷ []
 unfolding shift
 shift-3 = refl
@@ -31,7 +31,7 @@ shift-4 : shift 4 (1 ∷ 1 ∷ 0 ∷ 1 ∷ 0 ∷ []) ≡ 1 ∷ 1 ∷ 1 ∷ 0 ∷
 unfolding shift
 shift-4 = refl
 
--- 11001 has no sixth beat: the found 1, at position 5, moves
+-- 11001 has no sixth beat: the found 1, at position 5, moves [E5]
 last-position : next (1 ∷ 1 ∷ 0 ∷ 0 ∷ 1 ∷ []) ≡ 1 ∷ 1 ∷ 1 ∷ 0 ∷ 0 ∷ []
 unfolding shift found has01 movesNext next firstFrom every ones zeros isSchedule
 last-position = refl
@@ -41,6 +41,7 @@ not-10011 : movesNext (1 ∷ 0 ∷ 1 ∷ 0 ∷ 1 ∷ []) ≡ false
 unfolding shift found has01 movesNext next firstFrom every ones zeros isSchedule
 not-10011 = refl
 
+-- [E5]
 next-10101 : next (1 ∷ 0 ∷ 1 ∷ 0 ∷ 1 ∷ []) ≡ 1 ∷ 1 ∷ 0 ∷ 0 ∷ 1 ∷ []
 unfolding shift found has01 movesNext next firstFrom every ones zeros isSchedule
 next-10101 = refl
@@ -91,12 +92,12 @@ dip-10101 : isDip 3 2 (1 ∷ 0 ∷ 1 ∷ 0 ∷ 1 ∷ []) ≡ true
 unfolding shift found has01 movesNext next firstFrom every ones zeros isSchedule changed isDip
 dip-10101 = refl
 
--- a run that makes its first step and only counts the rest leaves another form after two steps
+-- a run that makes its first step and only counts the rest leaves another form after two steps [P6b]
 first-step-only : steps 2 (1 ∷ 1 ∷ 1 ∷ 0 ∷ 0 ∷ []) ≡ steps 1 (1 ∷ 1 ∷ 1 ∷ 0 ∷ 0 ∷ []) → ⊥
 unfolding shift found has01 movesNext next firstFrom every ones zeros isSchedule steps
 first-step-only e = let clash : _≡_ {A = ℕ} 1 0 = ap (λ (l : List ℕ). getD l 1 0) e in omega arith
 
--- and one that reports twice its length misses the third step's two beats more
+-- and one that reports twice its length misses the third step's two beats more [P6c]
 twice-its-length : worked 3 (1 ∷ 1 ∷ 1 ∷ 0 ∷ 0 ∷ []) ≡ 8
 unfolding shift found has01 movesNext next firstFrom every ones zeros isSchedule steps changed worked
 twice-its-length = refl

@@ -3,9 +3,9 @@
 --     no-01-top             with no 0 followed by 1 a schedule is t ones and then s zeros [S3]
 --     circle                for every two forms there is that one number of steps [D3b]
 --     circle-start-last     from a form to itself it is N(t, s): the start is met last [D3c]
---     dip-means, means-dip  a dip sets down at its second beat and is not the form after t ones and s zeros
+--     dip-means, means-dip  a dip sets down at its second beat and is not the form after t ones and s zeros [D3e]
 --     step-changes          from two ones and one zero on, a step changes 2 beats, and 4 exactly if it arrives at a dip [D3d] [O1b]
---     one-form              with at most one 1 or no zeros there is one form, and
+--     one-form              with at most one 1 or no zeros there is one form, and [O1c]
 --     one-form-changes      a step changes none [O1c]
 --     stretch-changes       k steps change 2k beats and two more for each dip [D3e]
 --     round-changes         a round changes 2·N(t, s) + 2·N(t−1, s−1) − 2 beats [D3f]

@@ -1,6 +1,6 @@
 -- The CoolCat rule, the manual, "The step"; source 000, sections 1 and 3. Positions count from 1 here, as there.
 -- Definitions only.
---     shift k b       the k-th prefix shift: the symbol at k goes to position 2, and position 1 stays [S1]
+--     shift k b       the k-th prefix shift: the symbol at k goes to position 2, and position 1 stays [S1] [A4]
 --     is01 b i        a 0 stands at place i (counted from 0) and a 1 after it
 --     found b         the position of the 1 of the leftmost 0 followed by 1; past the end where there is none
 --     has01 b         there is a 0 followed by 1

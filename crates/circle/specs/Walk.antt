@@ -2,9 +2,9 @@
 --     steps k b       b after k steps
 --     changed a b     at how many places a and b differ [S4]
 --     worked k b      the changed beats of k steps from b, added up
---     isDip t s c     c sets down at its second beat, and is not the form after t ones and s zeros
+--     isDip t s c     c sets down at its second beat, and is not the form after t ones and s zeros [D3e]
 --     dips t s k b    how many of k steps from b arrive at such a form
---     OneWay          exactly one number of steps from 1 to N(t, s) leads from a to b
+--     OneWay          exactly one number of steps from 1 to N(t, s) leads from a to b [D3b]
 use mathlib.Core.Bool.{Bool, cond, _&&_}
 use mathlib.Core.List.{List, [], _∷_}
 use mathlib.Core.Path.{_≡_}

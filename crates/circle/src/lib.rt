@@ -135,7 +135,7 @@ fn may_run(t: u64, s: u64, beats: &[u8], k: u64) -> Verdict
 }
 
 // Takes the lent schedule one step on, and answers the beats that the step changed. Refuses 1 to 6 as
-// the check does; a refusal changes nothing. [S5] [W1] [P1]
+// the check does; a refusal changes nothing. [S5] [W1] [P1] [D1a] [D2a]
 pub fn next(t: u64, s: u64, beats: &mut [u8]) -> Answer
     ensures { λ r. ⌜ r ≡ nextAnswer t s (now (beats .entry)) ⌝ }
     ensures { λ _. ⌜ now (beats .exit) ≡ nextLeft t s (now (beats .entry)) ⌝ }
@@ -147,7 +147,7 @@ pub fn next(t: u64, s: u64, beats: &mut [u8]) -> Answer
     }
 }
 
-// The beats that a step would change, from a call that writes nothing. Refuses as next does. [S7]
+// The beats that a step would change, from a call that writes nothing. Refuses as next does. [S7] [D1a]
 pub fn changed(t: u64, s: u64, beats: &[u8]) -> Answer
     ensures { λ r. ⌜ r ≡ nextAnswer t s (now (beats .entry)) ⌝ }
 {
@@ -160,6 +160,7 @@ pub fn changed(t: u64, s: u64, beats: &[u8]) -> Answer
 
 // Takes the lent schedule k steps on, past the closing step where it comes to that, and answers the
 // beats changed at each of them added up. Refuses 1 to 6 as the check does, then 13; a refusal changes nothing. [S6]
+// [D1a] [D3g] [W1] [R6]
 pub fn run(t: u64, s: u64, beats: &mut [u8], k: u64) -> Answer
     ensures { λ r. ⌜ r ≡ runAnswer t s (now (beats .entry)) k ⌝ }
     ensures { λ _. ⌜ now (beats .exit) ≡ runLeft t s (now (beats .entry)) k ⌝ }
@@ -171,7 +172,8 @@ pub fn run(t: u64, s: u64, beats: &mut [u8], k: u64) -> Answer
     }
 }
 
-// The beats that a run would change, from a call that writes nothing: it walks in a copy. Refuses as run does.
+// The beats that a run would change, from a call that writes nothing: it walks in a copy. Refuses as run does. [D1a]
+// [S7] [R6]
 pub fn run_changed(t: u64, s: u64, beats: &[u8], k: u64) -> Answer
     ensures { λ r. ⌜ r ≡ runAnswer t s (now (beats .entry)) k ⌝ }
 {

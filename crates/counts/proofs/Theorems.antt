@@ -1,8 +1,8 @@
 -- What a count of forms answers, the manual, "How many forms" and "Refusal numbers". One of the three holds of every t and s [R3].
 --     beats-at-most-64    allowed counts have at most 64 beats [A5]
---     count-forms         allowed counts: N(t, s)
---     count-too-many      refusal 1 for t above the largest count [D1b]
---     count-more-down     refusal 2 for an allowed t with s above it
+--     count-forms         allowed counts: N(t, s) [R3]
+--     count-too-many      refusal 1 for t above the largest count [D1b] [R3]
+--     count-more-down     refusal 2 for an allowed t with s above it [R3]
 -- Assumes nothing.
 use mathlib.Core.Path.{_≡_, ap}
 use Prim.Native.Nat.{ℕ, _+_, _≤_, _<_}

@@ -1,5 +1,5 @@
 -- The counts of a schedule, the manual, "How many forms" and "Refusal numbers" (Order: a count). Definitions only.
---     Allowed       counts that a schedule may have: t up to the largest count, s up to t
+--     Allowed       counts that a schedule may have: t up to the largest count, s up to t [A5]
 --     countRows     the refusals that a pair of counts can get, in their order [R10]
 --     counting      what a count of forms answers: N(t, s), or the refusal
 use mathlib.Core.List.{List, [], _∷_}

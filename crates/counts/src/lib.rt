@@ -7,7 +7,7 @@ use refusal::Answer;
 use refusal::Refusal;
 use refusal::Verdict;
 
-// Whether a schedule may take up t tasks and set down s. Refuses 1, then 2.
+// Whether a schedule may take up t tasks and set down s. Refuses 1, then 2. [P13]
 pub fn allowed(t: u64, s: u64) -> Verdict
     ensures { λ r. ⌜ r ≡ judge (countRows t s) ⌝ }
 {

@@ -4,7 +4,7 @@
 --     accepted-counts   the counts of an accepted call are allowed
 --     accepted-beats    and the beats that it was asked about are a schedule of them
 --     accepted-owed     and what was lent is as long as it has to be
---     call-refused      so what the letter wants refused is not accepted
+--     call-refused      so what the letter wants refused is not accepted [D1b] [D1e] [D1c]
 -- Assumes nothing.
 use mathlib.Core.Bool.{true≢false}
 use mathlib.Core.List.{List, [], _∷_, _++_, List·Memᴰ·head}

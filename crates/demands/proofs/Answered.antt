@@ -1,5 +1,5 @@
 -- Every call has an answer: the second half of demand 1's first sentence.
---     call-answered     that no verdict, number and content fit a call's contract is impossible
+--     call-answered     that no verdict, number and content fit a call's contract is impossible [D1f]
 -- Assumes nothing.
 use mathlib.Core.List.{List, [], _∷_}
 use mathlib.Core.Path.{_≡_, refl}

@@ -1,6 +1,6 @@
 -- What holds of every call, by the words of its contract: the parts of demand 1.
---     call-unchanged     a refused call leaves all that was lent as it was
---     call-silent        and answers 0 for every number but the bytes that a read record takes
+--     call-unchanged     a refused call leaves all that was lent as it was [D1d] [R7]
+--     call-silent        and answers 0 for every number but the bytes that a read record takes [R7]
 --     call-one           no second verdict, number or content fits the contract [P2]
 -- Assumes nothing.
 use mathlib.Core.List.{List, [], _∷_}

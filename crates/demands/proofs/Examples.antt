@@ -1,5 +1,5 @@
 -- Every example of specs/Examples.antt holds, by computing the definitions.
---     every-example     each example of the list holds [P7]
+--     every-example     each example of the list holds [P7] [E1] [E3] [E7a] [E9]
 -- Assumes nothing.
 use mathlib.Core.List.{List, [], _∷_, List·Memᴰ, List·Memᴰ·cases-cons, List·Memᴰ·not-nil}
 use mathlib.Core.Logic.{⊎-elim}

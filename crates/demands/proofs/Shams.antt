@@ -3,20 +3,20 @@
 -- proof does not fit the wrong code; a theorem here, that no proof can: what meets the contract does not answer so.
 -- What is not the sham's own is left open: any verdict, any numbers, any content of what was lent.
 --     Refuses everything [P3]: no refusal fits a call that has to be accepted.
---     count-refusing, check-refusing, next-refusing, changed-refusing, run-refusing, run-changed-refusing
---     number-refusing, form-refusing, form-on-sheet-refusing, tree-refusing, schedule-of-tree-refusing
---     read-refusing, read-beaten-refusing, write-refusing, write-beaten-refusing
+--     count-refusing, check-refusing, next-refusing, changed-refusing, run-refusing, run-changed-refusing [P3]
+--     number-refusing, form-refusing, form-on-sheet-refusing, tree-refusing, schedule-of-tree-refusing [P3]
+--     read-refusing, read-beaten-refusing, write-refusing, write-beaten-refusing [P3]
 --     Answers one fixed number [P5]: none fits both of two calls.
---     count-fixed, next-fixed, changed-fixed, run-fixed, run-changed-fixed, number-fixed, read-fixed, write-fixed
+--     count-fixed, next-fixed, changed-fixed, run-fixed, run-changed-fixed, number-fixed, read-fixed, write-fixed [P5]
 --     Leaves one fixed form, record or table [P6d]: none fits both of two calls.
---     next-fixed-form, run-fixed-form, form-fixed, form-on-sheet-fixed, tree-fixed, schedule-of-tree-fixed
---     read-fixed-form, write-fixed-record
+--     next-fixed-form, run-fixed-form, form-fixed, form-on-sheet-fixed, tree-fixed, schedule-of-tree-fixed [P6d]
+--     read-fixed-form, write-fixed-record [P6d]
 --     The next form is the form that was given, whatever is answered; or no beat is said to change [P6a].
---     next-still, run-still, changed-still, run-changed-still
+--     next-still, run-still, changed-still, run-changed-still [P6a]
 --     A run makes its first step only, however it counts the rest; or it counts that step only [P6b].
---     run-first-step, run-changed-first-step
+--     run-first-step, run-changed-first-step [P6b]
 --     A run reports twice its length, whatever it leaves [P6c].
---     run-twice, run-changed-twice
+--     run-twice, run-changed-twice [P6c]
 -- Assumes nothing.
 use mathlib.Core.List.{List, [], _∷_}
 use mathlib.Core.Path.{_≡_, refl}

@@ -6,7 +6,7 @@
 --     lent            what is lent to a call, list by list
 --     Says            an answer that is one number, or a refusal
 --     Gives           what the contract says of a call: its verdict, the numbers that it answers, and what it leaves in
---                     all that was lent
+--                     all that was lent [D1f] [D1g] [P2]
 --     silenced        the numbers that are 0 after a refusal: all but the bytes that a read record takes
 --     CountsOf        the counts that a call names
 --     BeatsOf         the beats that a call is asked about

@@ -4,12 +4,12 @@
 --     Wrong                what the letter wants refused: counts above 32, bad beats, wrong lengths, numbers beyond the
 --                          last form, cut records. A wrong length is each of these: a lent list of another length than
 --                          the counts ask for, a sheet that is too short, fewer places than reading needs, too little
---                          room to write into, and an L that is wrong for its record
+--                          room to write into, and an L that is wrong for its record [D1b] [D1e] [D1f]
 --     Demand1              a call does its work or refuses by number: there is an answer, and no second one; a refusal
---                          changes nothing
---     Demand2 t s          the next form, the number and the form of allowed counts
---     Demand3 t s          the circle of t, s, and its work
---     Demand3All t s       how many forms there are, and runs
+--                          changes nothing [D1f]
+--     Demand2 t s          the next form, the number and the form of allowed counts [D2h]
+--     Demand3 t s          the circle of t, s, and its work [D3h]
+--     Demand3All t s       how many forms there are, and runs [D3h]
 --     Demands              all of them
 use mathlib.Core.Bool.{true}
 use mathlib.Core.List.{List, [], _∷_}

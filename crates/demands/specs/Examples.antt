@@ -20,11 +20,14 @@ use Rattle.number.specs.Number.{numberOf, formOf}
 use Rattle.tree.specs.Table.{Has}
 
 pub data Example : Type 0 where
+  -- [E1]
   counts : (t s n : ℕ) → Example
   follows : (t s : ℕ) → List (List ℕ) → Example
   changes : (t s : ℕ) → List ℕ → Example
   rounds : (t s n : ℕ) → Example
+  -- [E7a]
   numbers : (t s : ℕ) → List (List ℕ) → Example
+  -- [E9]
   links : (b l r p : List ℕ) → Example
 
 -- b, and each form after it, in the order of a list

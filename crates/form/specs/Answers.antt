@@ -2,10 +2,10 @@
 -- "Refusal numbers" (Order: numbers). Definitions only.
 --     numberRows       the refusals of a number: 1, 2, then 7 [R14]
 --     formRows         alone: then 3 [R16]
---     formVerdict, formLeft       what writing the form alone answers and leaves
---     sheetRows        onto a sheet: then 12, exactly if column + t + s is above the sheet's length [R15]
+--     formVerdict, formLeft       what writing the form alone answers and leaves [O3]
+--     sheetRows        onto a sheet: then 12, exactly if column + t + s is above the sheet's length [R15] [R16]
 --     onSheet          the sheet with a form from the column on: every byte before and after stays [O3]
---     sheetVerdict, sheetLeft     what writing it onto a sheet answers and leaves
+--     sheetVerdict, sheetLeft     what writing it onto a sheet answers and leaves [O3]
 use mathlib.Core.Bool.{not}
 use mathlib.Core.List.{List, [], _∷_, _++_}
 use Prim.Native.Nat.{ℕ, _+_}

@@ -1,6 +1,6 @@
 // The form of a number, alone or on a sheet: the manual, "The number" and "Onto the sheet". It is written
 // from the number and the table of counts, and not by walking the circle [M8]. The contracts of the public
-// functions cite specs/Answers.
+// functions cite specs/Answers. [P1]
 ghost use mathlib.Core.Bool.{cond};
 ghost use mathlib.Core.List.{_++_};
 ghost use mathlib.Core.Path.{_≡_};
@@ -58,7 +58,7 @@ fn front(p: u64, until: usize, out: &mut [u8])
 // Writes the form of a number, from its last beat to its first. At a turn the beats before at, p of them
 // ones, stand at place k of all the places of their list S, and end in a 0 exactly if k is below low.
 // The next low is one of two counts that add up to low, and one of these is looked up before the beat is
-// known, so that no beat waits for a look-up.
+// known, so that no beat waits for a look-up. [M8] [F3]
 fn write(rows: &[[u64; SIDE]], t: u64, s: u64, number: u64, out: &mut [u8])
     requires { ⌜ Counts (now rows) × (t ≤ largest) × (s ≤ t) × (length (now out) ≡ t + s) × (number < N t s) ⌝ }
     ensures { λ r. ⌜ now (out .exit) ≡ formOf t s number ⌝ }
@@ -100,7 +100,7 @@ fn numbered(rows: &[[u64; SIDE]], t: u64, s: u64, number: u64) -> Verdict
 }
 
 // Writes the form of that number into the t+s lent bytes. Refuses 1, 2, 7, then 3; a refusal changes
-// nothing. [W4] [D1e]
+// nothing. [W4] [D1e] [D1a] [O3]
 pub fn form(t: u64, s: u64, number: u64, out: &mut [u8]) -> Verdict
     ensures { λ r. ⌜ r ≡ formVerdict t s number (now (out .entry)) ⌝ }
     ensures { λ _. ⌜ now (out .exit) ≡ formLeft t s number (now (out .entry)) ⌝ }
@@ -109,7 +109,7 @@ pub fn form(t: u64, s: u64, number: u64, out: &mut [u8]) -> Verdict
     form_by(&none, t, s, number, out)
 }
 
-// The same, by rows of the table that the caller keeps from call to call.
+// The same, by rows of the table that the caller keeps from call to call. [P13]
 pub fn form_by(rows: &[[u64; SIDE]], t: u64, s: u64, number: u64, out: &mut [u8]) -> Verdict
     requires { ⌜ Counts (now rows) ⌝ }
     ensures { λ r. ⌜ r ≡ formVerdict t s number (now (out .entry)) ⌝ }
@@ -129,7 +129,8 @@ pub fn form_by(rows: &[[u64; SIDE]], t: u64, s: u64, number: u64, out: &mut [u8]
 }
 
 // Writes the form of that number onto the lent sheet, from the column on. Refuses 1, 2, 7, then 12; every
-// byte before and after the form stays, and a refusal changes nothing. No sum of the column can wrap. [W4] [F3]
+// byte before and after the form stays, and a refusal changes nothing. No sum of the column can wrap. [W4] [F3] [D1a]
+// [D1e] [O3]
 pub fn form_on_sheet(t: u64, s: u64, number: u64, sheet: &mut [u8], column: u64) -> Verdict
     ensures { λ r. ⌜ r ≡ sheetVerdict t s number (now (sheet .entry)) column ⌝ }
     ensures { λ _. ⌜ now (sheet .exit) ≡ sheetLeft t s number (now (sheet .entry)) column ⌝ }

@@ -3,7 +3,7 @@
 // refusal, the place and the value of check, count and number are asked for by a call each; form, next
 // and run answer their refusal, and what next and run would change comes from calls that write nothing.
 // Nothing is kept from call to call. The contracts cite the definitions of the crates below,
-// each by an equation. [W3] [F4] [P13]
+// each by an equation. [W3] [F4] [P13] [D1a] [P1]
 ghost use mathlib.Core.Path.{_≡_};
 ghost use Prim.Native.Nat.{_≤_};
 ghost use Rattle.form.specs.Answers.{formVerdict, formLeft};
@@ -26,6 +26,7 @@ pub extern "C" fn gv_version() -> u64
 
 // Whether the beats are a schedule of t ones and s zeros: 0, or the refusal, 1 to 6.
 #[no_mangle]
+// [W3]
 pub extern "C" fn gv_check_refusal(t: u64, s: u64, beats: &[u8]) -> u64
     ensures { λ r. ⌜ r ≡ refusal (checked t s (now (beats .entry))) ⌝ }
 {
@@ -34,6 +35,7 @@ pub extern "C" fn gv_check_refusal(t: u64, s: u64, beats: &[u8]) -> u64
 
 // The place that goes with that refusal, and 0 where it names none.
 #[no_mangle]
+// [W3] [F4]
 pub extern "C" fn gv_check_place(t: u64, s: u64, beats: &[u8]) -> u64
     ensures { λ r. ⌜ r ≡ place (checked t s (now (beats .entry))) ⌝ }
 {
@@ -42,6 +44,7 @@ pub extern "C" fn gv_check_place(t: u64, s: u64, beats: &[u8]) -> u64
 
 // Whether counts t, s have forms: 0, or the refusal, 1 or 2.
 #[no_mangle]
+// [W3]
 pub extern "C" fn gv_count_refusal(t: u64, s: u64) -> u64
     ensures { λ r. ⌜ r ≡ refusal (verdict (counting t s)) ⌝ }
 {
@@ -50,6 +53,7 @@ pub extern "C" fn gv_count_refusal(t: u64, s: u64) -> u64
 
 // The place that goes with that refusal: 0.
 #[no_mangle]
+// [W3]
 pub extern "C" fn gv_count_place(t: u64, s: u64) -> u64
     ensures { λ r. ⌜ r ≡ place (verdict (counting t s)) ⌝ }
 {
@@ -58,6 +62,7 @@ pub extern "C" fn gv_count_place(t: u64, s: u64) -> u64
 
 // How many forms there are of counts t, s; 0 after a refusal.
 #[no_mangle]
+// [W3] [F4]
 pub extern "C" fn gv_count(t: u64, s: u64) -> u64
     ensures { λ r. ⌜ r ≡ value (counting t s) ⌝ }
 {
@@ -66,6 +71,7 @@ pub extern "C" fn gv_count(t: u64, s: u64) -> u64
 
 // Whether the beats have a number: 0, or the refusal, 1 to 6. Asks the check alone.
 #[no_mangle]
+// [W3]
 pub extern "C" fn gv_number_refusal(t: u64, s: u64, beats: &[u8]) -> u64
     ensures { λ r. ⌜ r ≡ refusal (verdict (numberAnswer t s (now (beats .entry)))) ⌝ }
 {
@@ -74,6 +80,7 @@ pub extern "C" fn gv_number_refusal(t: u64, s: u64, beats: &[u8]) -> u64
 
 // The place that goes with that refusal, and 0 where it names none.
 #[no_mangle]
+// [W3]
 pub extern "C" fn gv_number_place(t: u64, s: u64, beats: &[u8]) -> u64
     ensures { λ r. ⌜ r ≡ place (verdict (numberAnswer t s (now (beats .entry)))) ⌝ }
 {
@@ -82,6 +89,7 @@ pub extern "C" fn gv_number_place(t: u64, s: u64, beats: &[u8]) -> u64
 
 // The number of the lent schedule; 0 after a refusal.
 #[no_mangle]
+// [W3] [F4]
 pub extern "C" fn gv_number(t: u64, s: u64, beats: &[u8]) -> u64
     ensures { λ r. ⌜ r ≡ value (numberAnswer t s (now (beats .entry))) ⌝ }
 {
@@ -91,6 +99,7 @@ pub extern "C" fn gv_number(t: u64, s: u64, beats: &[u8]) -> u64
 // Writes the form of that number into the t+s lent bytes, and answers 0 or the refusal: 1, 2, 7, then 3.
 // A refusal changes nothing.
 #[no_mangle]
+// [W3] [F4]
 pub extern "C" fn gv_form(t: u64, s: u64, number: u64, out: &mut [u8]) -> u64
     ensures { λ r. ⌜ r ≡ refusal (formVerdict t s number (now (out .entry))) ⌝ }
     ensures { λ _. ⌜ now (out .exit) ≡ formLeft t s number (now (out .entry)) ⌝ }
@@ -100,6 +109,7 @@ pub extern "C" fn gv_form(t: u64, s: u64, number: u64, out: &mut [u8]) -> u64
 
 // Takes the lent schedule one step on, and answers 0 or the refusal, 1 to 6. A refusal changes nothing.
 #[no_mangle]
+// [W3] [F4]
 pub extern "C" fn gv_next(t: u64, s: u64, beats: &mut [u8]) -> u64
     ensures { λ r. ⌜ r ≡ refusal (verdict (nextAnswer t s (now (beats .entry)))) ⌝ }
     ensures { λ _. ⌜ now (beats .exit) ≡ nextLeft t s (now (beats .entry)) ⌝ }
@@ -109,6 +119,7 @@ pub extern "C" fn gv_next(t: u64, s: u64, beats: &mut [u8]) -> u64
 
 // The beats that gv_next would change, and 0 where it refuses. Writes nothing.
 #[no_mangle]
+// [W3]
 pub extern "C" fn gv_next_changed(t: u64, s: u64, beats: &[u8]) -> u64
     ensures { λ r. ⌜ r ≡ value (nextAnswer t s (now (beats .entry))) ⌝ }
 {
@@ -136,6 +147,7 @@ pub extern "C" fn gv_run_changed(t: u64, s: u64, beats: &[u8], steps: u64) -> u6
 // Lists the order records of one descriptor to another as the packing list does, to the end of the input or
 // after a 9: 0 where all was listed, 1 where reading failed, 2 where writing failed. [E18]
 #[no_mangle]
+// [E18]
 pub extern "C" fn gv_packing_list(from: i32, to: i32) -> u64
     ensures { λ r. ⌜ r ≤ 2 ⌝ }
 {

@@ -1,5 +1,5 @@
 // The text of one line of the packing list: the manual, "The packing list". A line is written where
-// it is to stand, with no copy. The contracts cite specs/Line, and specs/Written of the crate `text`.
+// it is to stand, with no copy. The contracts cite specs/Line, and specs/Written of the crate `text`. [P1]
 ghost use Prim.Native.Nat.{_+_, _≤_, _<_};
 ghost use lib.ListN.{length};
 ghost use Rattle.text.specs.Written.{Written};

@@ -175,7 +175,7 @@ module _ (t s : ℕ) (m : s ≤ suc t) (all : (i : ℕ) → i ≤ t → Placed t
             ap (λ (x : ℕ). rankOf (getD (groups n ++ top (suc t) s ∷ []) x [])) here ∙ ap rankOf (getD-append-seam (groups n) (top (suc t) s) [] []) ∙ top-rank (suc t) s;
       }
 
-  -- for t = s the group i = s has no fronts: t is the last group
+  -- for t = s the group i = s has no fronts: t is the last group [E8]
   last-equal : suc t ≡ s → lastGroup (suc t) s ≡ t
   last-equal e = let before : pred s ≡ t = omega arith in rw (eq-eqb (suc t) s e) before
 

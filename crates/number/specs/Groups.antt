@@ -2,7 +2,7 @@
 --     upTo f m       the lists f 1, f 2, .., f m, one after the other
 --     lastGroup      the groups go up to s, or up to s − 1 if t = s
 --     ending         a front, then a 1 and then s − i zeros
---     S t s          for each i the fronts of S (t−1) i with that ending; t ones then s zeros closes the list
+--     S t s          for each i the fronts of S (t−1) i with that ending; t ones then s zeros closes the list [M7]
 use mathlib.Core.Bool.{cond}
 use mathlib.Core.List.{List, [], _∷_, _++_, map}
 use Prim.Native.Nat.{ℕ, zero, suc, pred, _-_}

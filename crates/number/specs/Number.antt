@@ -1,9 +1,9 @@
 -- The number of a form, the manual, "The number"; the letter, demand 2 [O2]. Definitions only.
 --     start t s          where counting starts: t ones then s zeros
---     Fewest t s b n     n is the fewest steps that lead from there to b
+--     Fewest t s b n     n is the fewest steps that lead from there to b [M1]
 --     same               whether two lists of beats are equal, as a test
---     numberOf t s b     the number: the first n below N(t, s) for which n steps from the start lead to b
---     formOf t s n       the form of number n: n steps from the start
+--     numberOf t s b     the number: the first n below N(t, s) for which n steps from the start lead to b [O2]
+--     formOf t s n       the form of number n: n steps from the start [O2]
 use mathlib.Core.Bool.{Bool, _&&_}
 use mathlib.Core.List.{List}
 use mathlib.Core.Path.{_≡_}

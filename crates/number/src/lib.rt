@@ -1,6 +1,6 @@
 // The number of a form: the manual, "The number". It works from the beats and the table of counts, and not
 // by walking the circle [M8]. The contracts of the public functions cite specs/Answers, which has those of
-// the crate `form` too; proofs/Theorems says what a number is.
+// the crate `form` too; proofs/Theorems says what a number is. [P1]
 ghost use mathlib.Core.Bool.{false};
 ghost use mathlib.Core.Path.{_≡_};
 ghost use Prim.Native.Nat.{_+_, _-_, _*_, _≤_};
@@ -66,7 +66,7 @@ fn unranked() -> Ranked
 }
 
 // The number of a schedule: 0 for ones and then zeros; else that of the beats up to the 1 of the
-// leftmost 0 followed by 1, and what each beat after it adds. The beats are tested as they are read.
+// leftmost 0 followed by 1, and what each beat after it adds. The beats are tested as they are read. [M8]
 fn rank(rows: &[[u64; SIDE]], t: u64, s: u64, beats: &[u8]) -> Ranked
     requires { ⌜ Counts (now rows) ⌝ }
     ensures { λ r. ⌜ Ranks t s (now (beats .entry)) (r .whole) (r .number) ⌝ }
@@ -106,7 +106,7 @@ fn rank(rows: &[[u64; SIDE]], t: u64, s: u64, beats: &[u8]) -> Ranked
     }
 }
 
-// The number of the lent schedule. Refuses 1 to 6 as the check does. [W4]
+// The number of the lent schedule. Refuses 1 to 6 as the check does. [W4] [D1a]
 pub fn number(t: u64, s: u64, beats: &[u8]) -> Answer
     ensures { λ r. ⌜ r ≡ numberAnswer t s (now (beats .entry)) ⌝ }
 {
@@ -114,7 +114,7 @@ pub fn number(t: u64, s: u64, beats: &[u8]) -> Answer
     number_by(&none, t, s, beats)
 }
 
-// The same, by rows of the table that the caller keeps from call to call.
+// The same, by rows of the table that the caller keeps from call to call. [P13]
 pub fn number_by(rows: &[[u64; SIDE]], t: u64, s: u64, beats: &[u8]) -> Answer
     requires { ⌜ Counts (now rows) ⌝ }
     ensures { λ r. ⌜ r ≡ numberAnswer t s (now (beats .entry)) ⌝ }

@@ -1,5 +1,5 @@
 -- The parts of what reading answers, the manual, "Order record". Definitions only.
---     verdict, t, s, number, consumed     after a refusal every number but the bytes consumed is 0 [R22]
+--     verdict, t, s, number, consumed     after a refusal every number but the bytes consumed is 0 [R22] [F5]
 use Prim.Native.Nat.{ℕ}
 use Rattle.refusal.specs.declared.Verdict.{Verdict}
 use Rattle.order.specs.declared.Reading.{Reading}

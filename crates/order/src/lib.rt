@@ -1,5 +1,5 @@
 // What reading a record answers: the manual, "Order record" and "Refusal numbers". The contracts cite
-// specs/Parts.
+// specs/Parts. [P1]
 ghost use mathlib.Core.Path.{_≡_};
 ghost use Rattle.order.specs.Parts as said;
 use refusal::Refusal;
@@ -20,6 +20,7 @@ pub enum Reading {
 }
 
 impl Reading {
+    // [P13]
     pub fn verdict(self) -> Verdict
         ensures { λ r. ⌜ r ≡ said.verdict self ⌝ }
     {
@@ -29,6 +30,7 @@ impl Reading {
         }
     }
 
+    // [R22]
     pub fn t(self) -> u64
         ensures { λ r. ⌜ r ≡ said.t self ⌝ }
     {
@@ -38,6 +40,7 @@ impl Reading {
         }
     }
 
+    // [R22]
     pub fn s(self) -> u64
         ensures { λ r. ⌜ r ≡ said.s self ⌝ }
     {
@@ -47,6 +50,7 @@ impl Reading {
         }
     }
 
+    // [R22]
     pub fn number(self) -> u64
         ensures { λ r. ⌜ r ≡ said.number self ⌝ }
     {

@@ -21,31 +21,31 @@ use Rattle.stream.specs.Exchange.{begun, fed, finished}
 use Rattle.stream.specs.Pass.{rests}
 use Rattle.packing.specs.Listed.{lineOf, packingList, widest, Buffers, Turned}
 
--- 3 2 2 11010
+-- 3 2 2 11010 [E4]
 first : lineOf (12 ∷ 0 ∷ 1 ∷ 0 ∷ 3 ∷ 2 ∷ 2 ∷ 0 ∷ 0 ∷ 0 ∷ 0 ∷ 0 ∷ 0 ∷ 0 ∷ [])
     ≡ 51 ∷ 32 ∷ 50 ∷ 32 ∷ 50 ∷ 32 ∷ 49 ∷ 49 ∷ 48 ∷ 49 ∷ 48 ∷ 10 ∷ []
 unfolding valueOf N digits decimal beatText every firstFrom ones zeros isSchedule shift found has01 movesNext next steps
 first = refl
 
--- 3 2 3 10101
+-- 3 2 3 10101 [E4]
 second : lineOf (5 ∷ 0 ∷ 2 ∷ 0 ∷ 3 ∷ 2 ∷ 168 ∷ [])
     ≡ 51 ∷ 32 ∷ 50 ∷ 32 ∷ 51 ∷ 32 ∷ 49 ∷ 48 ∷ 49 ∷ 48 ∷ 49 ∷ 10 ∷ []
 unfolding valueOf tabulate N digits decimal beatText every firstFrom ones zeros isSchedule shift found has01 movesNext next steps changed
 second = refl
 
--- refused 7 0
+-- refused 7 0 [E4]
 third : lineOf (12 ∷ 0 ∷ 1 ∷ 0 ∷ 3 ∷ 2 ∷ 5 ∷ 0 ∷ 0 ∷ 0 ∷ 0 ∷ 0 ∷ 0 ∷ 0 ∷ [])
     ≡ 114 ∷ 101 ∷ 102 ∷ 117 ∷ 115 ∷ 101 ∷ 100 ∷ 32 ∷ 55 ∷ 32 ∷ 48 ∷ 10 ∷ []
 unfolding valueOf N digits decimal
 third = refl
 
--- 1 1 0 10
+-- 1 1 0 10 [E4]
 fourth : lineOf (12 ∷ 0 ∷ 1 ∷ 0 ∷ 1 ∷ 1 ∷ 0 ∷ 0 ∷ 0 ∷ 0 ∷ 0 ∷ 0 ∷ 0 ∷ 0 ∷ [])
     ≡ 49 ∷ 32 ∷ 49 ∷ 32 ∷ 48 ∷ 32 ∷ 49 ∷ 48 ∷ 10 ∷ []
 unfolding valueOf N digits decimal beatText every firstFrom ones zeros isSchedule shift found has01 movesNext next steps
 fourth = refl
 
--- the empty schedule prints as -: 0 0 0 -
+-- the empty schedule prints as -: 0 0 0 - [E4]
 empty : lineOf (4 ∷ 0 ∷ 2 ∷ 0 ∷ 0 ∷ 0 ∷ []) ≡ 48 ∷ 32 ∷ 48 ∷ 32 ∷ 48 ∷ 32 ∷ 45 ∷ 10 ∷ []
 unfolding valueOf tabulate N digits decimal beatText every firstFrom ones zeros isSchedule shift found has01 movesNext next steps changed
 empty = refl
@@ -65,11 +65,12 @@ lines =
     114 ∷ 101 ∷ 102 ∷ 117 ∷ 115 ∷ 101 ∷ 100 ∷ 32 ∷ 55 ∷ 32 ∷ 48 ∷ 10 ∷
     49 ∷ 32 ∷ 49 ∷ 32 ∷ 48 ∷ 32 ∷ 49 ∷ 48 ∷ 10 ∷ []
 
+-- [E4] [E14]
 whole-list : packingList orders ≡ lines
 unfolding listFrom valueOf tabulate N digits decimal beatText every firstFrom ones zeros isSchedule shift found has01 movesNext next steps changed
 whole-list = refl
 
--- with a byte after them that is no record: refused 9 0, and the list ends
+-- with a byte after them that is no record: refused 9 0, and the list ends [E14]
 cut-list : packingList (orders ++ 12 ∷ []) ≡ lines ++ 114 ∷ 101 ∷ 102 ∷ 117 ∷ 115 ∷ 101 ∷ 100 ∷ 32 ∷ 57 ∷ 32 ∷ 48 ∷ 10 ∷ []
 unfolding listFrom valueOf tabulate N digits decimal beatText every firstFrom ones zeros isSchedule shift found has01 movesNext next steps changed
 cut-list = refl

@@ -1,6 +1,7 @@
 // The packing list: the manual, "The packing list". A line for each order record of a stream. The line of
 // a record is in specs/Listed; how a stream is listed, and that what is printed is the list of the whole input
 // however it comes in pieces, is in the crate `stream`, whose specs/Pass and specs/Exchange the contracts cite too.
+// [P1]
 ghost use mathlib.Core.Path.{_≡_};
 ghost use Prim.Native.Nat.{_+_, _≤_};
 ghost use lib.ListN.{length};
@@ -20,7 +21,7 @@ use triangle::SIDE;
 const WIDEST: usize = 64 + triangle::BEATS;
 
 // Writes the line of the record that a slice starts with at the start of the lent bytes, leaving the others. The
-// room takes its beats.
+// room takes its beats. [E4]
 fn list(rows: &[[u64; SIDE]], src: &[u8], room: &mut [u8], out: &mut [u8]) -> Printed
     requires { ⌜ Counts (now rows) × (length (now room) ≡ mostBeats) × (widest ≤ length (now out)) ⌝ }
     ensures { λ r. ⌜ Prints lineOf (now (src .entry)) (now (out .entry)) r (now (out .exit)) ⌝ }
@@ -48,7 +49,7 @@ fn list(rows: &[[u64; SIDE]], src: &[u8], room: &mut [u8], out: &mut [u8]) -> Pr
     }
 }
 
-// Lists the records that a window starts with, one after the other, while their lines have room.
+// Lists the records that a window starts with, one after the other, while their lines have room. [E16]
 fn list_window(
     rows: &[[u64; SIDE]],
     src: &[u8],
@@ -90,7 +91,7 @@ fn list_window(
     }
 }
 
-// Lists the records of the window, writes their lines out, and reads on where one waits for more input.
+// Lists the records of the window, writes their lines out, and reads on where one waits for more input. [E16]
 fn turn(
     rows: &[[u64; SIDE]],
     from: i32,
@@ -109,7 +110,7 @@ fn turn(
     stream::exchange(from, to, input, text, state, pass)
 }
 
-// Turn after turn, to the end of the list.
+// Turn after turn, to the end of the list. [E12]
 fn run(
     rows: &[[u64; SIDE]],
     from: i32,
@@ -134,7 +135,7 @@ fn run(
 }
 
 // [E12] Lists the records of one descriptor to another, to the end of the input or after a 9. Answers 0 where all
-// was listed, 1 where reading failed and 2 where writing failed; errno then has the system's reason.
+// was listed, 1 where reading failed and 2 where writing failed; errno then has the system's reason. [W2]
 pub fn list_all(from: i32, to: i32) -> u64
     ensures { λ r. ⌜ r ≤ 2 ⌝ }
 {

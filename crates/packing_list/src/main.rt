@@ -1,6 +1,6 @@
 // The packing list as a program of its own: order records from standard input, a line for each to standard output.
 // It is thin over `packing::list_all`, as the command of the C host is (host/packing_list.c), and tells a failure in
-// the same words; what it cannot have is an exit status.
+// the same words; what it cannot have is an exit status. [E4]
 use libc::STDERR_FILENO;
 use libc::STDIN_FILENO;
 use libc::STDOUT_FILENO;
@@ -19,6 +19,7 @@ fn tell(what: &[u8]) {
     io::write_all(STDERR_FILENO, b": no byte was taken\n");
 }
 
+// [W2]
 fn main() {
     let answer = packing::list_all(STDIN_FILENO, STDOUT_FILENO);
     if answer == 1 {

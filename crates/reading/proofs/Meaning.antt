@@ -1,7 +1,7 @@
 -- What an accepted record of each kind has, and that it means a schedule and its number.
 --     numbered-facts, beaten-facts     what the rows of a kind say where they accept
 --     kind-means           an accepted record of a known kind means a schedule of allowed counts and its number
---     read-means           the same of an accepted slice
+--     read-means           the same of an accepted slice [B7]
 -- Assumes nothing.
 use mathlib.Core.Bool.{false, true≢false}
 use mathlib.Core.List.{List, _++_}

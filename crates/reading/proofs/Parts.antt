@@ -1,7 +1,7 @@
 -- The parts of a record's bytes.
 --     parts-of             the length, the kind, the counts and the payload of a record that was written
 --     six                  a slice of six bytes and more, by its first six
---     unused-packed        packed beats leave no unused bit set
+--     unused-packed        packed beats leave no unused bit set [B1]
 --     read-facts           what an accepted slice has: room, a whole record, a known kind, and the rows of the kind
 -- Assumes nothing.
 use mathlib.Core.Bool.{false}

@@ -1,10 +1,10 @@
 -- What reading a record answers and leaves, the manual, "Order record" and "Refusal numbers", by the definitions of
 -- `record`. Definitions only.
---     told             an answer by the verdict: counts, number and 2 + L; or the refusal, and the bytes consumed
+--     told             an answer by the verdict: counts, number and 2 + L; or the refusal, and the bytes consumed [R21]
 --     reading          the answer to a record of a kind
 --     leaving          what the lent slice holds afterwards: the schedule, and after it what was there; refused, what
---                      was there
---     readAnswer, readLeft     the same of a slice that starts at a record
+--                      was there [B2]
+--     readAnswer, readLeft     the same of a slice that starts at a record [B2]
 --     Whole            what is known before the kind is looked at
 --     The parts of an answer are in specs/Parts of the crate `order`.
 use mathlib.Core.Bool.{false}

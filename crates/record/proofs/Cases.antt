@@ -184,6 +184,7 @@ not-cut-1020 : cut (252 ∷ 3 ∷ replicate 1020 0) ≡ false
 unfolding valueOf
 not-cut-1020 = refl
 
+-- [R13]
 cut-1021 : cut (253 ∷ 3 ∷ replicate 1021 0) ≡ true
 unfolding valueOf
 cut-1021 = refl
@@ -233,6 +234,7 @@ taken : judge (readRows 64 (5 ∷ 0 ∷ 2 ∷ 0 ∷ 3 ∷ 2 ∷ 168 ∷ [])) ≡
 unfolding valueOf tabulate firstFrom ones zeros
 taken = refl
 
+-- [D1c]
 cut-short : judge (readRows 64 (5 ∷ 0 ∷ 2 ∷ 0 ∷ 3 ∷ 2 ∷ [])) ≡ Verdict.Refused CutShort
 unfolding valueOf
 cut-short = refl
@@ -245,6 +247,7 @@ tiny : judge (readRows 64 (0 ∷ 0 ∷ [])) ≡ Verdict.Refused WrongSize
 unfolding valueOf
 tiny = refl
 
+-- [R13]
 other-kind : judge (readRows 64 (5 ∷ 0 ∷ 3 ∷ 0 ∷ 3 ∷ 2 ∷ 168 ∷ [])) ≡ Verdict.Refused UnknownKind
 unfolding valueOf
 other-kind = refl
@@ -271,10 +274,11 @@ no-number = refl
 no-room : judge (readRows 63 []) ≡ Verdict.Refused NoRoom
 no-room = refl
 
--- what is consumed: nothing after 9 and after 12, else the record
+-- what is consumed: nothing after 9 and after 12, else the record [R21]
 eaten-9 : eaten CutShort 5 ≡ 0
 eaten-9 = refl
 
+-- [R21]
 eaten-12 : eaten NoRoom 5 ≡ 0
 eaten-12 = refl
 

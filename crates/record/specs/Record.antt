@@ -1,11 +1,12 @@
 -- Order records, the manual, "Order record" and "Refusal numbers" (Order: reading, writing). Definitions only.
 --     A record, written:
 --     payload          what a record of a kind has after its counts: the number (kind 1), or the packed beats (kind 2)
+--                      [O5]
 --     recordOf         the bytes of a record: its length, its kind, its counts, its payload [O5] [B2]
 --     writeRows        the refusals of writing, in their order: 10, 1, 2, 3, 4, 5, 6, 12 [R19]
 --     writeAnswer, writeLeft     what writing answers, 2 + L, and leaves: the record, and after it what was there;
 --                                kindAnswer and kindLeft
---                      where the kind is known
+--                      where the kind is known [B2]
 --     A record, read:
 --     long, kindIn, ups, downs, body     the parts of the record that a slice starts with
 --     cut              the slice has no whole record, or L is above 1,020 [D1c]
@@ -13,8 +14,8 @@
 --     spoiled          kind 2: L is not exactly what the counts need, or an unused bit is not 0
 --     meant, meantNumber         what a record means: a schedule, and its number [B7]
 --     headRows         the refusals of reading before the kind is known, in their order: 12, 9, 11 (L below 2), 10
---                      [R13]
---     kindRows         and those of a kind: 11 (L wrong for it), 1, 2, then 7, or 11, 5, 6
+--                      [R13] [B2]
+--     kindRows         and those of a kind: 11 (L wrong for it), 1, 2, then 7, or 11, 5, 6 [R13]
 --     readRows         both [R20]
 --     eaten            the bytes consumed: 2 + L, but 0 after 9 and after 12 [R21]
 --     What reading answers and leaves is in specs/Reading of the crate `reading`.
@@ -63,6 +64,7 @@ recordOf kind t s b =
     lowFirst 2 (4 + length (payload (kindOf kind) t s b))
     ++ (lowFirst 2 kind ++ (t ∷ (s ∷ payload (kindOf kind) t s b)))
 
+-- [R13]
 abbrev pub roomRow : ℕ → ℕ → ℕ → List ℕ → List ℕ → Row
 roomRow kind t s b out = ltb (length out) (length (recordOf kind t s b)) ⇒ NoRoom
 
@@ -126,6 +128,7 @@ meantNumber numbered t s p = valueOf p
 meantNumber beaten t s p = numberOf t s (unpacked (t + s) p)
 meantNumber unknown t s p = 0
 
+-- [D1e]
 abbrev pub bodyRows : Kind → ℕ → ℕ → ℕ → List ℕ → List Row
 bodyRows numbered t s l p = (not (ltb (valueOf p) (N t s)) ⇒ NoSuchNumber) ∷ []
 bodyRows beaten t s l p = (spoiled (t + s) l p ⇒ WrongSize) ∷ handRows t (unpacked (t + s) p)

@@ -1,5 +1,5 @@
 // Numbers as bytes, the low one first, for writing here and for the crate `reading`. The contracts cite
-// specs/Bytes.
+// specs/Bytes. [P1]
 ghost use mathlib.Core.Path.{_≡_};
 ghost use Prim.Native.Nat.{_≤_};
 ghost use lib.ListN.{length};
@@ -20,7 +20,7 @@ pub fn value(src: &[u8]) -> u64
     number
 }
 
-// Fills the bytes with those of the number.
+// Fills the bytes with those of the number. [P13]
 pub fn spell(number: u64, out: &mut [u8])
     ensures { λ r. ⌜ now (out .exit) ≡ lowFirst (length (now (out .entry))) number ⌝ }
 {

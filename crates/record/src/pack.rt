@@ -1,5 +1,5 @@
 // Beats eight to a byte, the first in the highest bit, for writing here and for the crate `reading`. The
-// contracts cite specs/Bytes.
+// contracts cite specs/Bytes. [P1]
 ghost use mathlib.Core.Path.{_≡_};
 ghost use Prim.Native.Nat.{ℕ, _≤_, _<_, _*_};
 ghost use lib.Dec.{eqb};
@@ -57,7 +57,7 @@ fn current(src: &[u8], at: usize, byte: u8) -> u8
 }
 
 // Writes the beats that are packed in the bytes, as many as there is room for, and answers whether the bits
-// left over are 0.
+// left over are 0. [P13]
 pub fn unpack(src: &[u8], out: &mut [u8]) -> bool
     requires { ⌜ length (now src) ≡ bytesFor (length (now out)) ⌝ }
     ensures { λ r. ⌜ r ≡ eqb (unused (length (now (out .entry))) (now (src .entry))) 0 ⌝ }

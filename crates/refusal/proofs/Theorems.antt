@@ -1,9 +1,10 @@
 -- What the definitions of specs/ say, the manual, "Refusal numbers".
 --     Given               a row of the order holds and names the refusal, and no row before it holds
 --     refused-given, given-refused     an order refuses so exactly if that is given [R11]
---     accepted-none, none-accepted     it accepts exactly if no row holds
---     refused-number      a refusal's number is 1 to 13, so 0 is left for an accepted call
+--     accepted-none, none-accepted     it accepts exactly if no row holds [R11]
+--     refused-number      a refusal's number is 1 to 13, so 0 is left for an accepted call [R2]
 --     accepted-zero       a verdict that answers 0 accepts; that one which accepts answers 0 is `accepted-refusal` of Cases
+--                         [R8]
 --     same-refusal        number and place say which refusal it is [R2]
 --     verdict-answer      an answer has the verdict that it was made from
 --     answer-refused, answer-value     what an answer says of the verdict that it was made from

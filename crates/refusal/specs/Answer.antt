@@ -1,8 +1,8 @@
 -- What the manual, "Refusal numbers", has a call answer, for each case of the two kinds of answer. Definitions only.
 --     refusal, place     of a verdict: an accepted call answers 0 and 0, a refused one the refusal's number and place
---                        [R8]
---     verdict            of an answer: whether the call was accepted
---     value              of an answer: its number; 0 after a refusal [R7]
+--                        [R8] [R7] [F5]
+--     verdict            of an answer: whether the call was accepted [F5]
+--     value              of an answer: its number; 0 after a refusal [R7] [F5]
 --     answer             the answer of a call that would give n, by the verdict on its input
 --     left               what a call leaves in what was lent to it: its work, or, refused, what was there
 use mathlib.Core.List.{List}

@@ -1,7 +1,7 @@
 -- The order of refusals, the manual, "Refusal numbers". Definitions only.
 --     holds ⇒ why     a row of an order: where the test holds, the call is refused so
 --     judge           the verdict of an order: the first row whose test holds refuses; where none does, the call is
---                     accepted
+--                     accepted [R11]
 --     test            the test of a row
 use mathlib.Core.Bool.{Bool, true, false}
 use mathlib.Core.List.{List, [], _∷_}

@@ -1,6 +1,7 @@
 -- The table of refusals, the manual, "Refusal numbers" [R1] [F5]. Definitions only.
---     numberOf     the number of a refusal's row
---     placeOf      the place that goes with it: the beat that the case names, and 0 where the table's place is 0
+--     numberOf     the number of a refusal's row [R1] [F5]
+--     placeOf      the place that goes with it: the beat that the case names, and 0 where the table's place is 0 [R1]
+--                  [F5]
 use Prim.Native.Nat.{ℕ}
 use Rattle.refusal.specs.declared.Refusal.{Refusal}
 use Rattle.refusal.specs.declared.Refusal.the-variants.{

@@ -1,12 +1,12 @@
 // The refusals of the manual, "Refusal numbers", one named case for each row of its table, and two kinds
 // of answer that can be one; the third, of reading a record, is `Reading` of the crate `order`. Every function
 // of the library that can refuse answers one of the three, or to a C host its number, and passes a refusal
-// on as it got it. The contracts cite specs/Refusal and specs/Answer.
+// on as it got it. The contracts cite specs/Refusal and specs/Answer. [P1] [P13]
 ghost use mathlib.Core.Path.{_≡_};
 ghost use Rattle.refusal.specs.Refusal.{numberOf, placeOf};
 ghost use Rattle.refusal.specs.Answer as answer;
 
-// Why a call was refused. A case that holds a number names the beat at fault, counted from 0.
+// Why a call was refused. A case that holds a number names the beat at fault, counted from 0. [R1]
 pub enum Refusal {
     // 1: more tasks than a schedule may have
     TooManyTasks,
@@ -123,7 +123,7 @@ impl Answer {
         }
     }
 
-    // The number, and 0 after a refusal.
+    // The number, and 0 after a refusal. [R7]
     pub fn value(self) -> u64
         ensures { λ r. ⌜ r ≡ answer.value self ⌝ }
     {

@@ -37,24 +37,30 @@ no-zeros : zeros (1 ∷ 2 ∷ []) ≡ 0
 unfolding zeros
 no-zeros = refl
 
+-- [A2]
 pub fits-11010 : Schedule 3 2 (1 ∷ 1 ∷ 0 ∷ 1 ∷ 0 ∷ [])
 unfolding ones zeros plays
 fits-11010 = plays-schedule refl refl refl
 
+-- [A7]
 fits-empty : Schedule 0 0 []
 unfolding ones zeros plays
 fits-empty = plays-schedule refl refl refl
 
+-- [A2]
 beats-120 : Schedule 1 2 (1 ∷ 2 ∷ 0 ∷ []) → ⊥
 beats-120 p = omega (arith, p .beats 1 (omega arith))
 
+-- [A2]
 size-10 : Schedule 1 0 (1 ∷ 0 ∷ []) → ⊥
 size-10 p = omega (arith, p .size)
 
+-- [A2]
 taken-111 : Schedule 2 1 (1 ∷ 1 ∷ 1 ∷ []) → ⊥
 unfolding ones
 taken-111 p = omega (arith, p .taken)
 
+-- [A2]
 pub ahead-1001 : Schedule 2 2 (1 ∷ 0 ∷ 0 ∷ 1 ∷ []) → ⊥
 unfolding ones zeros
 ahead-1001 p = omega (arith, p .ahead 3 (omega arith))
@@ -186,12 +192,15 @@ checked-accepts : checked 3 2 (1 ∷ 1 ∷ 0 ∷ 1 ∷ 0 ∷ []) ≡ Verdict.Acc
 unfolding ones zeros firstFrom
 checked-accepts = refl
 
+-- [E2]
 checked-33 : checked 33 0 [] ≡ Verdict.Refused TooManyTasks
 checked-33 = refl
 
+-- [E2]
 checked-2-3 : checked 2 3 [] ≡ Verdict.Refused MoreDownThanUp
 checked-2-3 = refl
 
+-- [E2]
 checked-short : checked 2 1 (1 ∷ 1 ∷ []) ≡ Verdict.Refused WrongLength
 checked-short = refl
 
@@ -199,10 +208,12 @@ checked-02 : checked 1 1 (0 ∷ 2 ∷ []) ≡ Verdict.Refused (BadBeat 1)
 unfolding firstFrom
 checked-02 = refl
 
+-- [A4] [E2]
 checked-1001 : checked 2 2 (1 ∷ 0 ∷ 0 ∷ 1 ∷ []) ≡ Verdict.Refused (EmptyHand 2)
 unfolding ones zeros firstFrom
 checked-1001 = refl
 
+-- [E2]
 checked-111 : checked 2 1 (1 ∷ 1 ∷ 1 ∷ []) ≡ Verdict.Refused WrongTakeUps
 unfolding ones zeros firstFrom
 checked-111 = refl

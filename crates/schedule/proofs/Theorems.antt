@@ -1,6 +1,7 @@
 -- What the check's answer means, and that N counts, the manual, "A schedule", "How many forms" and "Refusal numbers".
 --     accepted-schedule, schedule-accepted     accepted exactly if the beats are a schedule of allowed counts [R4]
 --     refused-refuses, refuses-refused         each refusal exactly when its row holds and none before it does; the place is the first such beat
+--                                              [D1b] [R4] [R5]
 --     isSchedule-true, true-isSchedule         the test of specs/Schedule.antt holds exactly of the schedules [A8]
 --     N-schedules, lists-N                     some list has every schedule of t, s exactly once and is N(t, s) long, and so is every such list [D3a] [N1]
 -- Assumes nothing.

@@ -4,7 +4,7 @@
 --     Nowhere P n     P holds of no number below n
 --     Bad b k         the beat at k is neither 0 nor 1
 --     Bare b k        the beat at k sets down with nothing in hand: a 0 with no more ones than zeros before it
---     Refuses         when each refusal is given: its row holds, and no row before it does
+--     Refuses         when each refusal is given: its row holds, and no row before it does [R4]
 --     Right           the right verdict: accepted exactly if the beats are a schedule of allowed counts, else the
 --                     refusal
 use mathlib.Core.List.{List}

@@ -3,9 +3,9 @@
 --     Schedule        a list of t + s beats, each 0 or 1, with exactly t ones, in which every prefix has at least as
 --                     many ones as zeros [A1]
 --     isSchedule      the same as a test that can be computed, part by part; proofs/Theorems.antt shows that it says
---                     the same
+--                     the same [A8]
 --     Lists           a list l has everything of which P holds, each once, and nothing else; Lists (Schedule t s) l: l
---                     lists the schedules of t, s
+--                     lists the schedules of t, s [N1]
 use mathlib.Core.Bool.{Bool, _&&_}
 use mathlib.Core.List.{List, [], _∷_}
 use mathlib.Core.Path.{_≡_}

@@ -31,7 +31,7 @@ fn bad_beat(beats: &[u8]) -> usize
 }
 
 // The first place from `from` on whose beat is another, or the number of beats where there is none; `from`
-// itself where it is past the end.
+// itself where it is past the end. [P13]
 pub fn skip(beats: &[u8], from: usize, beat: u8) -> usize
     ensures { λ r. ⌜ r ≡ skipped (now (beats .entry)) from beat ⌝ }
 {
@@ -54,7 +54,7 @@ struct Played {
 }
 
 // Plays the beats up to the first that sets down with nothing in hand, or to the end where there is none.
-// The hand is counted without a branch on the beat, which could not be predicted.
+// The hand is counted without a branch on the beat, which could not be predicted. [F1]
 fn play(beats: &[u8]) -> Played
     requires { ⌜ ((k : ℕ) → k < length (now beats) → getD (now beats) k 0 ≤ 1) ⌝ }
     ensures { λ r. ⌜ r .at ≡ emptyHand (now (beats .entry)) ⌝ }

@@ -49,7 +49,7 @@ cut-ends : ends (12 ∷ []) ≡ true
 unfolding valueOf
 cut-ends = refl
 
--- only a 9 ends the list
+-- only a 9 ends the list [E4]
 nine-ends : ending (Verdict.Refused CutShort) ≡ true
 nine-ends = refl
 
@@ -84,7 +84,7 @@ empty-list : listOf bell [] ≡ []
 unfolding listFrom
 empty-list = refl
 
--- after a length of 1,021 nothing is listed, whatever stands there
+-- after a length of 1,021 nothing is listed, whatever stands there [E14]
 nine-list : listOf bell (253 ∷ 3 ∷ 0 ∷ 0 ∷ 0 ∷ 0 ∷ []) ≡ 7 ∷ []
 unfolding listFrom valueOf
 nine-list = refl

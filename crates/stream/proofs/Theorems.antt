@@ -6,6 +6,7 @@
 --                      loses nothing, says nothing twice and consumes whole records only [E16]
 --     listing-list     however an input is cut into pieces, the texts of the passes one after the other are the list of the whole [E15]
 --     turn-over, turn-on     turns that follow each other list an input so: the last one, and one with others after it
+--                            [E15]
 -- Assumes nothing.
 use mathlib.Core.Bool.{Bool, true, false, true≢false, false≢true}
 use mathlib.Core.List.{List, [], _∷_, _++_, append-nil, append-assoc}

@@ -2,7 +2,7 @@
 -- the line that it prints of each record. Definitions only.
 --     verdictOn        the verdict on the record that a slice starts with, read with room for the longest schedule
 --     passing, passed  the bytes to pass over, after a verdict and of a record
---     ending, ends     the list ends after the line of a 9
+--     ending, ends     the list ends after the line of a 9 [E4]
 --     listFrom         the list of at most so many records
 --     listOf           the whole list of an input: the line of the record that it starts with and, where that is no 9,
 --                      the list of what follows; of no bytes, nothing. Each record takes a byte at least, so that as

@@ -3,7 +3,7 @@
 // another. It lists what stands in the window (`at_front` says what that is) and hands both buffers to `exchange`,
 // which writes the lines and reads on. What a line says is the program's affair. What the whole list of an input
 // is, and that it is the same however the input comes in pieces, is in specs/Stream, specs/Pass and
-// proofs/Theorems. The contracts cite specs/Stream and specs/Exchange.
+// proofs/Theorems. The contracts cite specs/Stream and specs/Exchange. [P1]
 ghost use mathlib.Core.Path.{_≡_};
 ghost use mathlib.Core.Bool.{cond};
 ghost use Prim.Native.Nat.{_-_};
@@ -65,7 +65,7 @@ fn settled(src: &[u8]) -> bool
     2 + long <= src.len() as u64
 }
 
-// What stands at the front of the unread bytes, where the input has ended after them or not.
+// What stands at the front of the unread bytes, where the input has ended after them or not. [P13]
 pub fn at_front(window: &[u8], ended: bool) -> Front
     ensures { λ r. ⌜ r ≡ frontOf ended (now (window .entry)) ⌝ }
 {
@@ -95,7 +95,7 @@ pub fn start() -> Stream
 }
 
 // The turns that are left after one: none where a program does not go on. Nothing says that an input ends, so a
-// program counts its turns down, from a number that no run uses up.
+// program counts its turns down, from a number that no run uses up. [E12]
 pub fn fewer(turns: u64, going: bool) -> u64
     ensures { λ r. ⌜ r ≡ cond going (turns - 1) 0 ⌝ }
 {

@@ -107,7 +107,7 @@ fn refill(from: i32, input: &mut [u8], at: usize, have: usize) -> Stream
 
 // Writes the lines of a pass out and, where the pass stopped at a record that waits for more input, reads on.
 // Lines are written before more is read, so that none waits while the input does, and a read that fails loses
-// none.
+// none. [E16] [E17]
 pub fn exchange(
     from: i32,
     to: i32,

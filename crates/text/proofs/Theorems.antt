@@ -1,6 +1,6 @@
 -- What the definitions of specs/ mean, once over all numbers.
 --     decimal-spells      a decimal is digits that say its number, and none of several begins with 0 [E13]
---     spells-decimal      no other text does that
+--     spells-decimal      no other text does that [E13]
 --     written-one         no second text and no second answer fits what is said of a written piece [P12]
 -- That a number of 64 bits has at most 20 digits is `digits-fit` in Digits. Assumes nothing.
 use mathlib.Core.List.{List, [], _∷_, _++_, append-nil}

@@ -1,5 +1,5 @@
 // The text that any line is made of: a byte, and a number in decimal, each written where it is to stand, with no
-// copy. The contracts cite specs/Decimal and specs/Written; proofs/Theorems says what a decimal is.
+// copy. The contracts cite specs/Decimal and specs/Written; proofs/Theorems says what a decimal is. [P1]
 ghost use mathlib.Core.List.{[], _∷_, _++_};
 ghost use mathlib.Core.Path.{_≡_};
 ghost use Prim.Native.Nat.{_+_, _≤_, _<_};

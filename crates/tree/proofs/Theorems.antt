@@ -1,10 +1,11 @@
 -- What a tree table is, the manual, "Tree table", once over n.
 --     closed-tree               every closed schedule has exactly one tree, of n nodes [T1]
---     tree-closed               every tree of n nodes has exactly one closed schedule
+--     tree-closed               every tree of n nodes has exactly one closed schedule [T1]
 --     has-closed, closed-has    what has tables is a closed schedule, and every closed schedule has tables
 --     one-tables                a schedule has one triple of tables
 --     treed-one                 no second answer and no second content of what is lent fits the contract [P11]
 --     tree-accepts, accepts-tree     the way there accepts exactly the closed schedules of n ≤ 32 with room for their tables
+--                                    [T4]
 -- Assumes nothing.
 use mathlib.Core.List.{List, [], _∷_, _++_}
 use mathlib.Core.Path.{_≡_, refl, sym, _∙_, ap, subst}

@@ -3,10 +3,10 @@
 --     Has          b is the word of a tree of n nodes with the final leaf left out, and l, r, p are the tree's tables,
 --                  its nodes numbered 1 to n; the root's parent is 0 [O4]
 --     fits         lengths of a schedule of 2n beats and of three tables of n
---     sizeRows     the refusals by length, in their order: 1, 3; lentRows, of what is lent
+--     sizeRows     the refusals by length, in their order: 1, 3; lentRows, of what is lent [R17]
 --     treeRows     the refusals of a schedule and of the tables lent for it, in their order: 1, 3, then 4, 5, 6 [R17]
 --     Treed        what the way from a schedule to its tables answers and leaves: the tables of its tree, or, refused,
---                  what was there
+--                  what was there [T4]
 use mathlib.Core.Bool.{Bool, not, _&&_}
 use mathlib.Core.List.{List, [], _∷_, _++_}
 use mathlib.Core.Path.{_≡_}

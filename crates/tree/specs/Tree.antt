@@ -2,11 +2,11 @@
 --     Tree        a leaf, or an inner node with a tree on its left and one on its right
 --     size        its inner nodes
 --     word        its nodes in preorder, a node before its left tree and that before its right one: 1 for an inner
---                 node, 0 for a leaf
+--                 node, 0 for a leaf [O4]
 --     The inner nodes have numbers, in preorder from some first number on; 0 stands for a leaf, or for no node:
 --     root k      the number of the topmost node
---     lefts k, rights k     for each node in its order, the number of its left child and of its right child
---     parents q k           for each node in its order, the number of its parent; q is that of the topmost node
+--     lefts k, rights k     for each node in its order, the number of its left child and of its right child [O4]
+--     parents q k           for each node in its order, the number of its parent; q is that of the topmost node [O4]
 use mathlib.Core.List.{List, [], _∷_, _++_}
 use Prim.Native.Nat.{ℕ, suc, _+_}
 

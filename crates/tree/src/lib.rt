@@ -1,5 +1,5 @@
 // The tree table of a closed schedule: the manual, "Tree table". The way back is the crate `tree_back`. The
-// contracts of the public functions cite specs/Table; proofs/Theorems says that a schedule has one tree.
+// contracts of the public functions cite specs/Table; proofs/Theorems says that a schedule has one tree. [P1]
 ghost use mathlib.Core.Path.{_≡_};
 ghost use Prim.Native.Nat.{_+_, _≤_, _<_};
 ghost use lib.ListN.{length, set};
@@ -83,7 +83,7 @@ fn fit(n: usize, beats: usize, left: usize, right: usize, parent: usize) -> bool
     parent == n
 }
 
-// The refusals by size, of both ways: 1, then 3.
+// The refusals by size, of both ways: 1, then 3. [P13]
 pub fn sized(n: u64, beats: usize, left: usize, right: usize, parent: usize) -> Verdict
     ensures { λ r. ⌜ r ≡ judge (sizeRows n beats left right parent) ⌝ }
 {
@@ -98,7 +98,7 @@ pub fn sized(n: u64, beats: usize, left: usize, right: usize, parent: usize) -> 
 }
 
 // Fills the tables of the tree of a closed schedule of n tasks. Refuses 1, 3, then 4 over all beats, 5, 6; a
-// refusal changes nothing. [W5] [T4]
+// refusal changes nothing. [W5] [T4] [D1a]
 pub fn tree(n: u64, beats: &[u8], left: &mut [u8], right: &mut [u8], parent: &mut [u8]) -> Verdict
     ensures { λ r. ⌜ Treed n (now (beats .entry)) (now (left .entry)) (now (right .entry)) (now (parent .entry)) r
         (now (left .exit)) (now (right .exit)) (now (parent .exit)) ⌝ }

@@ -2,6 +2,7 @@
 --     one-schedule              three tables have at most one schedule
 --     untreed-one               no second answer and no second content of what is lent fits the contract [P11]
 --     back-accepts              the way back accepts tables of the right sizes if some schedule has them, and writes that one
+--                               [T3]
 --     there-and-back, back-and-there     the two ways undo each other on what they accept [T2]
 -- Assumes nothing.
 use mathlib.Core.List.{List}

@@ -1,7 +1,7 @@
 -- The way back from the tree tables of a closed schedule, the manual, "Tree table" and "Refusal numbers" (rows 1, 3 and
 -- 8; Order: trees). Definitions only.
 --     Untreed      what the way back answers and leaves: the schedule that has the tables; 8, and what was there,
---                  exactly if none has [R18]
+--                  exactly if none has [R18] [T3] [R17]
 use mathlib.Core.List.{List}
 use mathlib.Core.Path.{_≡_}
 use Prim.Native.Nat.{ℕ}

@@ -1,5 +1,5 @@
 // The way back from the tree tables of a closed schedule: the manual, "Tree table". The contract of the public
-// function cites specs/Back; proofs/Theorems says that this way and that of the crate `tree` undo each other.
+// function cites specs/Back; proofs/Theorems says that this way and that of the crate `tree` undo each other. [P1]
 ghost use mathlib.Core.Path.{_≡_};
 ghost use Prim.Native.Nat.{_+_, _≤_};
 ghost use lib.ListN.{length};
@@ -92,7 +92,7 @@ fn rebuild(left: &[u8], right: &[u8], parent: &[u8], room: &mut [u8], out: &mut 
 }
 
 // Writes the schedule of 2n beats that has these tables. Refuses 1, 3, then 8, exactly if no schedule has
-// them; a refusal changes nothing. [W5] [T3]
+// them; a refusal changes nothing. [W5] [T3] [D1a]
 pub fn schedule_of_tree(n: u64, left: &[u8], right: &[u8], parent: &[u8], out: &mut [u8]) -> Verdict
     ensures { λ r. ⌜ Untreed n (now (left .entry)) (now (right .entry)) (now (parent .entry)) (now (out .entry)) r
         (now (out .exit)) ⌝ }

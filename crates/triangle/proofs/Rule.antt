@@ -1,6 +1,7 @@
 -- The table holds the counts: its addition rule is tested once over the whole table, and a law turns the test into N at each entry [N6] [F2].
 --     ruled, sized, bounded     the tests, which the check computes: each entry follows from its neighbours; each row is as long as the table; no entry is above the last
---     at-N                      the entry at t, s is N(t, s)
+--                               [N6] [F2]
+--     at-N                      the entry at t, s is N(t, s) [N6]
 --     at-row-outside, at-column-outside     outside the table it is 0
 --     at-counted                so it is `counted` everywhere
 --     N-most, N-fits            no N(t, s) of an allowed t is above the last, which fits 64 bits

@@ -2,8 +2,8 @@
 --     largest     the largest number of tasks that a schedule takes up; the only place of the definitions that names it
 --                 [A5]
 --     mostBeats   the beats of the longest schedule
---     N t s       the number of schedules of t ones and s zeros, by its addition rule; 0 where s is above t
---     C n k       how many ways there are to take k of n things, by Pascal's rule
+--     N t s       the number of schedules of t ones and s zeros, by its addition rule; 0 where s is above t [N4]
+--     C n k       how many ways there are to take k of n things, by Pascal's rule [N3]
 --     counted     N for the counts that are allowed, and 0 for more tasks than the largest number
 --     place t s   where the count of t, s stands among the counts with s up to t, row after row
 use mathlib.Core.Bool.{cond}

@@ -1,6 +1,6 @@
 // The counts N(t, s) of the manual, "How many forms" (Table 1 of source 000, the Catalan triangle):
 // the table that holds them, and its look-up. A crate of its own, since its check takes long. The
-// contracts cite specs/Count.
+// contracts cite specs/Count. [P1]
 ghost use mathlib.Core.Path.{_≡_};
 ghost use Prim.Native.Nat.{_≤_};
 ghost use Rattle.triangle.specs.Count.{N, largest, counted};
@@ -24,14 +24,14 @@ pub fn rows() -> [[u64; SIDE]; SIDE]
     table::rows()
 }
 
-// How many forms take up t tasks and set down s: N(t, s), and 0 for t above LARGEST. [N7]
+// How many forms take up t tasks and set down s: N(t, s), and 0 for t above LARGEST. [N7] [P13]
 pub fn forms(t: u64, s: u64) -> u64
     ensures { λ r. ⌜ r ≡ counted t s ⌝ }
 {
     table::entry(t, s)
 }
 
-// The same of allowed counts, which it does not test.
+// The same of allowed counts, which it does not test. [P13]
 pub fn inside(t: u64, s: u64) -> u64
     requires { ⌜ (t ≤ largest) × (s ≤ t) ⌝ }
     ensures { λ r. ⌜ r ≡ N t s ⌝ }

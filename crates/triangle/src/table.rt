@@ -9,7 +9,7 @@ ghost use Rattle.triangle.specs.Table.{table, at, low, middle, high};
 // The largest number of tasks that a schedule takes up.
 pub const LARGEST: u64 = 32;
 
-// One row for each t from 0 to LARGEST, each row with LARGEST + 1 counts, zeros past s = t.
+// One row for each t from 0 to LARGEST, each row with LARGEST + 1 counts, zeros past s = t. [N6] [F2]
 const FORMS: [[u64; 33]; 33] = [
     [
         1,
@@ -1168,7 +1168,7 @@ const FORMS: [[u64; 33]; 33] = [
     ],
 ];
 
-// The table's own entry, and 0 outside the table. A const array is rebuilt wherever it is read, so this is slow.
+// The table's own entry, and 0 outside the table. A const array is rebuilt wherever it is read, so this is slow. [N6]
 fn listed(t: u64, s: u64) -> u64
     ensures { λ r. ⌜ r ≡ at t s ⌝ }
 {
@@ -1181,7 +1181,7 @@ fn listed(t: u64, s: u64) -> u64
     FORMS[t as usize][s as usize]
 }
 
-// The whole table.
+// The whole table. [F2]
 pub fn rows() -> [[u64; 33]; 33]
     ensures { λ r. ⌜ r ≡ table ⌝ }
 {
