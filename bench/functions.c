@@ -13,17 +13,18 @@
 #include <time.h>
 
 #include "ghanveltri.h"
+#include "limits.h"
 #include "plain.h"
 
 enum {
-    LARGEST = 32,
     MIXED = LARGEST + 1, /* as t: the counts of each form are scattered */
-    ROOM = 2 * LARGEST,
+    LINE = 64,           /* bytes of a cache line */
+    ROOM = (BEATS + LINE - 1) / LINE * LINE,
     FORMS = 2048,        /* forms of a pass */
     WALKS = 16,          /* runs of a pass, and the steps of each */
     STEPS = 4096,
     PASSES = 100,
-    GUARD = 16,          /* bytes behind the beats that no call may touch */
+    GUARD = 16,          /* bytes after the beats that no call may touch */
     MOST_WAYS = 4
 };
 
@@ -89,8 +90,8 @@ enum { WAYS = sizeof ways / sizeof *ways };
 
 /* The inputs of a pass, and the room in which they are changed. A form starts a cache line. */
 static uint64_t ts[FORMS], ss[FORMS], numbers[FORMS];
-static _Alignas(64) uint8_t beats[FORMS][ROOM];
-static _Alignas(64) uint8_t work[FORMS][ROOM];
+static _Alignas(LINE) uint8_t beats[FORMS][ROOM];
+static _Alignas(LINE) uint8_t work[FORMS][ROOM];
 
 static uint64_t seed;
 
@@ -244,14 +245,14 @@ static void once(void) {
 struct input {
     uint64_t t, s, number, steps;
     size_t length;
-    uint8_t beats[ROOM + GUARD];
+    uint8_t beats[BEATS + GUARD];
 };
 
 static unsigned long calls;
 
 /* What a way answers, and leaves in a copy of the input's beats. */
 static uint64_t answered(const struct way *way, const struct input *in, uint8_t *left) {
-    memcpy(left, in->beats, ROOM + GUARD);
+    memcpy(left, in->beats, BEATS + GUARD);
     calls++;
     if (way->count) return way->count(in->t, in->s);
     if (way->read) return way->read(in->t, in->s, left, in->length);
@@ -277,7 +278,7 @@ static void fail(const struct way *way, const struct input *in, uint64_t ours, u
 static void agree_on(const struct input *in) {
     const struct way *first = NULL;
     uint64_t ours = 0;
-    uint8_t expected[ROOM + GUARD], left[ROOM + GUARD];
+    uint8_t expected[BEATS + GUARD], left[BEATS + GUARD];
     for (const struct way *way = ways; way < ways + WAYS; way++) {
         if (!first || strcmp(way->function, first->function) != 0) {
             first = way;
@@ -296,11 +297,11 @@ static struct input input_of(uint64_t t, uint64_t s, uint64_t number, uint64_t s
     return in;
 }
 
-/* The forms that are measured, a few steps each, and from the first as many as a run may have. */
+/* The forms of counts as they are measured, a few steps each, and from the first as many as a run may have. */
 static void agree_on_measured(uint64_t t, uint64_t s) {
     prepare(t, s);
     for (int k = 0; k < FORMS; k++) {
-        struct input in = input_of(ts[k], ss[k], numbers[k], k == 0 ? 65535 : scattered(100));
+        struct input in = input_of(ts[k], ss[k], numbers[k], k == 0 ? LONGEST_RUN : scattered(100));
         agree_on(&in);
     }
 }
@@ -336,12 +337,12 @@ static void agree_on_far(const struct input *right, uint64_t far) {
 
 /* One form of the counts, spoilt at each beat, in its length and in its numbers. */
 static void agree_on_spoilt(uint64_t t, uint64_t s) {
-    static const uint64_t far[] = {0, 1, 33, 65, 65536, UINT64_MAX - 32, UINT64_MAX};
+    static const uint64_t far[] = {0, 1, LARGEST + 1, BEATS + 1, LONGEST_RUN + 1, UINT64_MAX - LARGEST, UINT64_MAX};
     const struct input right = input_of(t, s, scattered(table_count(t, s)), 2);
     struct input in = right;
     for (size_t place = 0; place < right.length; place++)
         agree_on_marked(right, place);
-    for (in.length = 0; in.length <= ROOM; in.length++)
+    for (in.length = 0; in.length <= BEATS; in.length++)
         agree_on(&in);
     for (size_t k = 0; k < sizeof far / sizeof *far; k++)
         agree_on_far(&right, far[k]);
@@ -352,6 +353,7 @@ static void agree(void) {
     agree_on_measured(16, 16);
     agree_on_measured(32, 20);
     agree_on_measured(32, 32);
+    agree_on_measured(LARGEST, LARGEST);
     agree_on_measured(MIXED, 0);
     for (uint64_t t = 0; t <= LARGEST; t++)
         for (uint64_t s = 0; s <= t; s++)

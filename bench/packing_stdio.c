@@ -3,9 +3,11 @@
 #include <stdio.h>
 #include <string.h>
 
-enum { LARGEST = 32, LONGEST = 1020 };
+#include "limits.h"
 
-static uint64_t forms[LARGEST + 1][LARGEST + 1];
+enum { LONGEST = 1020 };
+
+static uint64_t forms[SIDE][SIDE];
 
 static void make_forms(void) {
     for (int t = 0; t <= LARGEST; t++)
@@ -37,7 +39,8 @@ static void form(int t, int s, uint64_t n, char *beats) {
     memset(beats + t, '0', s);
 }
 
-/* The number of a schedule: the beats up to the leftmost 01 have their count, and each later 1 adds the groups before its own. */
+/* The number of a schedule: the beats up to the leftmost 01 have their count, and each later 1 adds the groups before
+   its own. */
 static uint64_t number(int t, int s, const char *beats) {
     int ups = 0, downs = 0, k = 0;
     uint64_t n;
@@ -64,7 +67,7 @@ static uint64_t number(int t, int s, const char *beats) {
 }
 
 static void numbered(int t, int s, const unsigned char *bytes) {
-    char beats[2 * LARGEST + 1] = "";
+    char beats[BEATS + 1] = "";
     uint64_t n = 0;
     for (int k = 7; k >= 0; k--)
         n = n << 8 | bytes[k];
@@ -77,7 +80,7 @@ static void numbered(int t, int s, const unsigned char *bytes) {
 }
 
 static void packed(int t, int s, const unsigned char *bytes, int length) {
-    char beats[2 * LARGEST + 8 + 1] = "";
+    char beats[BEATS + 1] = "";
     int ones = 0, bare = -1;
     if (length != (t + s + 7) / 8) {
         refused(11, 0);
@@ -106,7 +109,7 @@ static void packed(int t, int s, const unsigned char *bytes, int length) {
         accepted(t, s, number(t, s, beats), beats);
 }
 
-/* What stands behind a length, all of it there. */
+/* What stands after a length, all of it there. */
 static void line(const unsigned char *body, int length) {
     int kind, t, s;
     if (length < 2) {

@@ -6,41 +6,53 @@
 #include <string.h>
 #include <unistd.h>
 
+#include "limits.h"
+
 typedef uint8_t u8;
 typedef uint16_t u16;
 typedef uint32_t u32;
 typedef uint64_t u64;
 
 enum {
-    LARGEST = 32,
-    SIDE = LARGEST + 1,
-    BEATS = 2 * LARGEST,
     FRONT = 16,     /* beats in front that are looked up together */
     FRONTS = 12870, /* C(16, 8), the schedules of so many beats */
     LONGEST = 1020,
     RECORD = 2 + LONGEST,
     BLOCK = 1 << 17,
-    SLACK = 64, /* whole words are read and written past the ends */
-    LINE = 128  /* more than any line with its slack */
+    SLACK = 64,                       /* whole words are read past the end */
+    BITS = (BEATS + 7) / 8 * 8,       /* of the longest schedule, packed into bytes */
+    LINE = 8 + 8 + 16 + 1 + BITS + 2, /* what a line's words take at most: counts, number, beats and line end */
+    TOPS = 1845                       /* more than any number of 64 bits has of TEN_TO_16 */
 };
 
-/* The gain of a take-up behind a bare set-down. The gains of a schedule sum to less than 2^56, and 32 of these do not overflow. */
-#define BARE ((u64)1 << 58)
+/* The lists that are looked up have counts from the tables. */
+typedef char fronts_have_counts[FRONT <= MAX_TASKS ? 1 : -1];
 
-/* For the form at place q of list S(t, s): its last beat is 1 exactly if q - low < width, and then the beats before it stand at
-   place q - low. Else they stand at place q. */
+#define TEN_TO_16 ((u64)10000000000000000)
+
+/* For the form at place q of list S(t, s): its last beat is 1 exactly if q - low < width, and then the beats before it
+   stand at place q - low. Else they stand at place q. */
 struct bound {
     u64 low, width;
 };
 
+/* What a take-up adds to the number, and how many set-downs it shows to be bare. Both are added up at once. */
+typedef u64 worth __attribute__((vector_size(16)));
+
+/* Beats as bits, the first in the highest: as many as a word holds, and the byte after them. */
+struct bits {
+    u64 word, rest;
+};
+
 static u64 forms[SIDE][SIDE];
 static struct bound bounds[SIDE][SIDE];
-static u16 fronts[FRONTS];     /* the lists S(t, s) of t + s = 16, one behind the other */
-static u32 starts[SIDE][SIDE]; /* where list S(t, s) of no more beats starts in them, take-ups behind its forms */
-static u64 gain[SIDE][BEATS];  /* what the k-th take-up adds to the number when it stands at a place */
-static u64 heads[SIDE][SIDE];  /* "t s ", its length in the highest byte */
-static u64 digits[256];        /* the bits of a byte as digits, the highest first */
-static u64 first[BEATS + 1];   /* the first k bits */
+static u16 fronts[FRONTS];          /* the lists S(t, s) of t + s = 16, one after the other */
+static u32 starts[SIDE][SIDE];      /* where list S(t, s) of no more beats starts in them, take-ups after its forms */
+static worth worths[SIDE][BITS];    /* of the k-th take-up, by its bit: those of the word, and then of the rest */
+static u64 heads[SIDE][SIDE];       /* "t s ", its length in the highest byte */
+static u64 tops[TOPS];              /* the digits of a number, of 0 none, their length in the highest byte */
+static u64 digits[256];             /* the bits of a byte as digits, the highest first */
+static struct bits first[BITS + 1]; /* the first k bits */
 
 static u8 in[BLOCK + SLACK];
 static u8 out[BLOCK + LINE];
@@ -61,7 +73,7 @@ static void make_bounds(void) {
     }
 }
 
-/* The forms of list S(t, s) with a tail behind them. */
+/* The forms of list S(t, s) with a tail after them. */
 static u16 *list(u16 *at, int t, int s, int tail) {
     for (int i = 1; i <= s && i < t; i++)
         at = list(at, t - 1, i, tail | 1 << (FRONT - t - i));
@@ -79,11 +91,11 @@ static void make_fronts(void) {
     }
 }
 
-static void make_gain(void) {
+static void make_worths(void) {
     for (int k = 1; k <= LARGEST; k++)
         for (int place = 0; place < BEATS; place++) {
-            int downs = place - (k - 1);
-            gain[k][place] = downs >= k ? BARE : downs <= 0 ? 0 : forms[k][downs - 1] - 1;
+            int downs = place - (k - 1), bit = place < WORD ? WORD - 1 - place : WORD + (WORD + 7 - place);
+            worths[k][bit] = (worth){0 < downs && downs < k ? forms[k][downs - 1] - 1 : 0, downs >= k};
         }
 }
 
@@ -103,12 +115,22 @@ static void make_heads(void) {
         }
 }
 
+static void make_tops(void) {
+    for (u64 top = 1; top < TOPS; top++) {
+        u64 length = 0;
+        for (u64 n = top; n > 0; n /= 10, length++)
+            tops[top] = tops[top] << 8 | ('0' + n % 10);
+        tops[top] |= length << 56;
+    }
+}
+
 static void make_small(void) {
     for (int byte = 0; byte < 256; byte++)
         for (int bit = 0; bit < 8; bit++)
             digits[byte] |= (u64)('0' + (byte >> (7 - bit) & 1)) << (8 * bit);
-    for (int k = 1; k <= BEATS; k++)
-        first[k] = UINT64_MAX << (BEATS - k);
+    for (int k = 1; k <= BITS; k++)
+        first[k] = k <= WORD ? (struct bits){UINT64_MAX << (WORD - k), 0}
+                             : (struct bits){UINT64_MAX, 255 & 255 << (WORD + 8 - k)};
 }
 
 static u64 word(const u8 *at) {
@@ -130,14 +152,14 @@ static u64 eight_digits(u64 n) {
     return tens | (two - tens * 10) << 8;
 }
 
-/* A number below 10^17: its last sixteen digits as one word of two, shifted by the zeros in front. */
+/* A number: its last sixteen digits as one word of two, shifted by the zeros in front, after those before them. */
 static u8 *decimal(u8 *at, u64 n) {
-    u64 top = n / 10000000000000000;
-    n %= 10000000000000000;
+    u64 top = n / TEN_TO_16;
+    n %= TEN_TO_16;
     u64 high = eight_digits(n / 100000000), low = eight_digits(n % 100000000);
     int zeros = high ? __builtin_ctzll(high) / 8 : 8 + __builtin_ctzll(low | (u64)1 << 56) / 8;
-    *at = '0' + top;
-    at += top != 0;
+    put_word(at, tops[top]);
+    at += tops[top] >> 56;
     zeros = top ? 0 : zeros;
     unsigned __int128 both = (unsigned __int128)(low | 0x3030303030303030) << 64 | (high | 0x3030303030303030);
     both >>= 8 * zeros;
@@ -145,13 +167,14 @@ static u8 *decimal(u8 *at, u64 n) {
     return at + 16 - zeros;
 }
 
-static u8 *accepted(u8 *at, unsigned t, unsigned s, u64 n, u64 beats) {
+static u8 *accepted(u8 *at, unsigned t, unsigned s, u64 n, struct bits beats) {
     u64 head = heads[t][s];
     put_word(at, head);
     at = decimal(at + (head >> 56), n);
     *at++ = ' ';
     for (int k = 0; k < 8; k++)
-        put_word(at + 8 * k, digits[beats >> (56 - 8 * k) & 255]);
+        put_word(at + 8 * k, digits[beats.word >> (56 - 8 * k) & 255]);
+    if (BEATS > WORD) put_word(at + WORD, digits[beats.rest]);
     at += t + s;
     if (t == 0) *at++ = '-';
     *at++ = '\n';
@@ -168,19 +191,19 @@ static u8 *refused(u8 *at, unsigned refusal, unsigned place) {
 }
 
 /* The beats of the form at a place q in list S, from the last on. Past the end of a list q stands for its last form. */
-static u64 form(unsigned t, unsigned s, u64 q) {
+static struct bits form(unsigned t, unsigned s, u64 q) {
     const struct bound *b = &bounds[t][s];
-    u64 behind = 0;
+    u64 after = 0;
     for (unsigned left = t + s; left > FRONT; left--) {
         u64 one = -(u64)(q - b->low < b->width);
-        behind = behind >> 1 | (one & (u64)1 << 63);
+        after = after >> 1 | (one & (u64)1 << 63);
         q -= b->low & one;
         b = (const struct bound *)((const u8 *)b - sizeof *b - (one & (SIDE - 1) * sizeof *b));
     }
     size_t pair = b - bounds[0];
     u64 last = (&forms[0][0])[pair] - 1;
     u64 front = fronts[(&starts[0][0])[pair] + (q < last ? q : last)];
-    return (behind >> FRONT | front << (64 - FRONT)) & first[t + s];
+    return (struct bits){(after >> FRONT | front << (WORD - FRONT)) & first[t + s].word, after >> (FRONT - 8) & 255};
 }
 
 static unsigned ones(u64 w) {
@@ -189,29 +212,42 @@ static unsigned ones(u64 w) {
     return ((w + (w >> 4)) & 0x0F0F0F0F0F0F0F0F) * 0x0101010101010101 >> 56;
 }
 
-/* Of beats with t ones: the sum of the gains, from the last take-up on. */
-static u64 gains(unsigned t, u64 beats) {
-    u64 sum = 0;
-    for (unsigned k = t; k > 0; k--) {
-        sum += gain[k][63 - __builtin_ctzll(beats)];
-        beats &= beats - 1;
+/* Of beats with t ones: the sum of their worths, from the last take-up on. */
+static worth worth_of(unsigned t, struct bits beats) {
+    worth sum = {0, 0};
+    const worth *row = worths[t];
+    if (BEATS > WORD)
+        for (; beats.rest; row -= BITS) {
+            sum += row[WORD + __builtin_ctzll(beats.rest)];
+            beats.rest &= beats.rest - 1;
+        }
+    for (; row > worths[0]; row -= BITS) {
+        sum += row[__builtin_ctzll(beats.word)];
+        beats.word &= beats.word - 1;
     }
     return sum;
 }
 
+/* The set-downs that follow the take-ups in front. */
+static unsigned downs_after(unsigned ups, unsigned s, struct bits beats) {
+    u64 after = beats.word << ups;
+    if (BEATS > WORD && !after && beats.rest) return WORD - ups + __builtin_clzll(beats.rest << (WORD - 8));
+    return after ? (unsigned)__builtin_clzll(after) : s;
+}
+
 /* The take-ups and set-downs in front have their own count in place of a gain; a number of N is 0. */
-static u64 number(unsigned t, unsigned s, u64 beats, u64 sum) {
-    unsigned ups = __builtin_clzll(~beats);
-    u64 behind = beats << ups;
-    u64 n = sum + forms[ups][behind ? (unsigned)__builtin_clzll(behind) : s];
+static u64 number(unsigned t, unsigned s, struct bits beats, u64 sum) {
+    unsigned ups = __builtin_clzll(~beats.word);
+    u64 n = sum + forms[ups][downs_after(ups, s, beats)];
     return n == forms[t][s] ? 0 : n;
 }
 
 /* Beats that are no schedule: the first set-down with nothing in hand, or else the wrong number of ones. */
-static u8 *no_schedule(u8 *at, unsigned length, u64 beats) {
+static u8 *no_schedule(u8 *at, unsigned length, struct bits beats) {
     int hand = 0;
     for (unsigned k = 0; k < length; k++) {
-        hand += beats >> (63 - k) & 1 ? 1 : -1;
+        u64 beat = k < WORD ? beats.word >> (WORD - 1 - k) : beats.rest >> (WORD + 7 - k);
+        hand += beat & 1 ? 1 : -1;
         if (hand < 0) return refused(at, 5, k);
     }
     return refused(at, 6, 0);
@@ -219,12 +255,14 @@ static u8 *no_schedule(u8 *at, unsigned length, u64 beats) {
 
 static u8 *packed(u8 *at, unsigned length, const u8 *body) {
     unsigned t = body[2], s = body[3], width = (t + s + 7) / 8;
-    u64 beats = __builtin_bswap64(word(body + 4)) & first[8 * width];
-    if (length != 4 + width || (beats & ~first[t + s])) return refused(at, 11, 0);
-    if (ones(beats) != t) return no_schedule(at, t + s, beats);
-    u64 sum = gains(t, beats);
-    if (sum >= BARE) return no_schedule(at, t + s, beats);
-    return accepted(at, t, s, number(t, s, beats, sum), beats);
+    struct bits beats = {__builtin_bswap64(word(body + 4)) & first[8 * width].word, 0};
+    if (BEATS > WORD) beats.rest = body[4 + WORD / 8] & first[8 * width].rest;
+    u64 unused = (beats.word & ~first[t + s].word) | (beats.rest & ~first[t + s].rest);
+    if (length != 4 + width || unused) return refused(at, 11, 0);
+    if (ones(beats.word) + (beats.rest ? ones(beats.rest) : 0) != t) return no_schedule(at, t + s, beats);
+    worth sum = worth_of(t, beats);
+    if (sum[1]) return no_schedule(at, t + s, beats);
+    return accepted(at, t, s, number(t, s, beats, sum[0]), beats);
 }
 
 static u8 *numbered(u8 *at, const u8 *body) {
@@ -234,7 +272,7 @@ static u8 *numbered(u8 *at, const u8 *body) {
     return accepted(at, t, s, n, n ? form(t, s, n - 1) : first[t]);
 }
 
-/* The line of what stands behind a length. */
+/* The line of what stands after a length. */
 static u8 *line(u8 *at, unsigned length, const u8 *body) {
     if (length < 2) return refused(at, 11, 0);
     unsigned kind = body[0] | body[1] << 8;
@@ -254,7 +292,8 @@ static void flush(void) {
     put = out;
 }
 
-/* Moves what is left to the front and reads until a longest record is there or the input ends. Answers the bytes there. */
+/* Moves what is left to the front and reads until a longest record is there or the input ends. Answers the bytes
+   there. */
 static size_t refill(const u8 *from, size_t have) {
     memmove(in, from, have);
     while (have < RECORD && !ended) {
@@ -270,8 +309,9 @@ int main(void) {
     make_forms();
     make_bounds();
     make_fronts();
-    make_gain();
+    make_worths();
     make_heads();
+    make_tops();
     make_small();
     const u8 *from = in, *end = in + refill(in, 0);
     for (;;) {

@@ -3,15 +3,11 @@
    For gcc on a little-endian machine: a word of eight beats has the first in its lowest byte. */
 #include <string.h>
 
+#include "limits.h"
 #include "plain.h"
-
-enum { LARGEST = 32, SIDE = LARGEST + 1, BEATS = 2 * LARGEST, LONGEST_RUN = 65535 };
 
 /* A 1 in each byte of a word. */
 #define EACH ((uint64_t)0x0101010101010101)
-
-/* The gain of a 1 behind a bare set-down. The gains of a schedule sum to less than 2^56; 32 of these still fit. */
-#define BARE ((uint64_t)1 << 58)
 
 struct verdict {
     uint64_t refusal, place;
@@ -28,14 +24,22 @@ struct bound {
     uint64_t low, width;
 };
 
-static uint64_t forms[SIDE][SIDE];        /* N(t, s), 0 for s > t */
-static uint64_t gains[SIDE][SIDE];        /* what a 1 behind so many ones and zeros adds to the number */
-static uint64_t gains_at[LARGEST][BEATS]; /* the same for the k-th 1 from 0 on, by its place */
+/* What a 1 adds to the number, and how many set-downs it shows to be bare. Both are added up at once. */
+typedef uint64_t worth __attribute__((vector_size(16)));
+
+/* The beats as bits, the first in the lowest: as many as a word holds, and the rest. */
+struct bits {
+    uint64_t word, rest;
+};
+
+static uint64_t forms[SIDE][SIDE];   /* N(t, s), 0 for s > t */
+static uint64_t gains[SIDE][SIDE];   /* what a 1 after so many ones and zeros adds to the number */
+static worth worths[LARGEST][BEATS]; /* of the k-th 1 from 0 on, by its place */
 static struct bound bounds[SIDE][SIDE];
 
+/* A 1 after more zeros than ones has none. */
 static uint64_t gain(int ups, int downs) {
-    if (downs > ups) return BARE;
-    return downs > 0 && ups < LARGEST ? forms[ups + 1][downs - 1] - 1 : 0;
+    return 0 < downs && downs <= ups && ups < LARGEST ? forms[ups + 1][downs - 1] - 1 : 0;
 }
 
 void plain_prepare(void) {
@@ -51,7 +55,7 @@ void plain_prepare(void) {
     }
     for (int k = 0; k < LARGEST; k++)
         for (int place = k; place < BEATS; place++)
-            gains_at[k][place] = gain(k, place - k);
+            worths[k][place] = (worth){gain(k, place - k), place - k > k};
 }
 
 /* The refusals of counts and of a length. */
@@ -82,7 +86,7 @@ static uint64_t word(const uint8_t *at) {
     return w;
 }
 
-/* The length % 8 beats behind the whole words, 0 in the bytes above them. There is one at least. */
+/* The length % 8 beats after the whole words, 0 in the bytes above them. There is one at least. */
 static uint64_t last_word(const uint8_t *beats, size_t length) {
     size_t part = length % 8;
     if (length >= 8) return word(beats + length - 8) >> (64 - 8 * part);
@@ -92,7 +96,7 @@ static uint64_t last_word(const uint8_t *beats, size_t length) {
     return w;
 }
 
-/* In each byte 0x80 and what is in hand behind that beat: the product with EACH has the ones up to it. */
+/* In each byte 0x80 and what is in hand after that beat: the product with EACH has the ones up to it. */
 static uint64_t hands(uint64_t hand, uint64_t ups) {
     return (0x80 + hand) * EACH + 2 * ups - 0x0807060504030201;
 }
@@ -189,7 +193,7 @@ static struct front words_front(const uint8_t *beats, size_t length) {
     return (struct front){zero, words_skip(beats, length, zero, 0)};
 }
 
-/* Whether the step moves the 0 behind the found 1, which then goes to the second place. */
+/* Whether the step moves the 0 after the found 1, which then goes to the second place. */
 static int dips(const uint8_t *beats, size_t length, struct front front) {
     return front.one + 1 < length && beats[front.one + 1] == 0 && front.one - front.zero < front.zero;
 }
@@ -254,7 +258,7 @@ static uint64_t scan_walk(uint8_t *beats, size_t length, uint64_t steps) {
 
 /* A step stores a 0 at the found 1 and a 1 at the leftmost 0, which lengthens the ones in front by one. What stands
    next says where the leftmost 01 is now: a 1 there is it; a 0 there goes to the second place, or, where as many zeros
-   as ones are before it, has the 1 behind it. Past the end the form is ones and then zeros: with both places at the
+   as ones are before it, has the 1 after it. Past the end the form is ones and then zeros: with both places at the
    last of the ones the two stores cancel, and the step goes on like one that moves a 0, but changes two beats fewer.
    These are taken off at once, and added again where the run ends before that step. */
 static uint64_t loopless_walk(uint64_t t, uint8_t *beats, size_t length, uint64_t steps) {
@@ -341,45 +345,74 @@ uint64_t masks_number(uint64_t t, uint64_t s, const uint8_t *beats, size_t lengt
     const uint64_t *at = gains[0];
     uint64_t sum = 0;
     for (size_t k = 0; k < length; k++) {
-        uint64_t beat = beats[k];
-        sum += *at & -beat;
-        at += 1 + beat * (SIDE - 1);
+        uint64_t mask = -(uint64_t)beats[k];
+        sum += *at & mask;
+        at += 1 + (mask & (SIDE - 1));
     }
     return closed(t, s, sum, words_front(beats, length));
 }
 
-/* The beats as the bits of a word, the first in the lowest, where they are t ones and all others 0; else 0. */
-static uint64_t packed(uint64_t t, const uint8_t *beats, size_t length) {
-    uint64_t bits = 0, all = 0, sum = 0;
-    size_t at = 0;
-    for (; at + 8 <= length; at += 8) {
+/* Of eight beats the bits, the first in the lowest. */
+static uint64_t eight_bits(uint64_t w) {
+    return w * 0x0102040810204080 >> 56;
+}
+
+/* The beats as bits, where they are t ones and all others 0; else no bit. */
+static struct bits packed(uint64_t t, const uint8_t *beats, size_t length) {
+    struct bits bits = {0, 0};
+    uint64_t all = 0, sum = 0;
+    size_t at = 0, whole = length < WORD ? length : WORD;
+    for (; at + 8 <= whole; at += 8) {
         uint64_t w = word(beats + at);
         all |= w;
         sum += w;
-        bits |= (w * 0x0102040810204080 >> 56) << at;
+        bits.word |= eight_bits(w) << at;
     }
     if (at < length) {
-        uint64_t w = last_word(beats, length);
+        uint64_t w = length == WORD + 8 ? word(beats + WORD) : last_word(beats, length);
         all |= w;
         sum += w;
-        bits |= (w * 0x0102040810204080 >> 56) << at;
+        if (BEATS > WORD && at == WORD)
+            bits.rest = eight_bits(w);
+        else
+            bits.word |= eight_bits(w) << at;
     }
-    return all & ~EACH || sum * EACH >> 56 != t ? 0 : bits;
+    return all & ~EACH || sum * EACH >> 56 != t ? (struct bits){0, 0} : bits;
+}
+
+/* The ones and the zeros in front; no more than s zeros. Not all of the first word are ones. */
+static struct front bits_front(struct bits bits, uint64_t s) {
+    size_t ups = __builtin_ctzll(~bits.word), downs = s;
+    uint64_t after = bits.word >> ups;
+    if (after)
+        downs = __builtin_ctzll(after);
+    else if (bits.rest)
+        downs = WORD - ups + __builtin_ctzll(bits.rest);
+    return (struct front){ups, ups + downs};
+}
+
+/* What stands in a row for the lowest bit. The bytes up to it are a number of 32 bits, which need not be extended. */
+static worth lowest(const worth *row, uint64_t bits) {
+    return *(const worth *)((const uint8_t *)row + (unsigned)sizeof(worth) * (unsigned)__builtin_ctzll(bits));
+}
+
+static worth worth_of(struct bits bits) {
+    worth sum = {0, 0};
+    const worth *row = worths[0];
+    for (uint64_t left = bits.word; left; left &= left - 1, row += BEATS)
+        sum += lowest(row, left);
+    for (uint64_t left = BEATS > WORD ? bits.rest : 0; left; left &= left - 1, row += BEATS)
+        sum += lowest(row + WORD, left);
+    return sum;
 }
 
 uint64_t words_number(uint64_t t, uint64_t s, const uint8_t *beats, size_t length) {
     if (misfit(t, s, length)) return 0;
-    uint64_t bits = packed(t, beats, length);
-    if (!bits) return 0;
-    uint64_t sum = 0, left = bits;
-    for (const uint64_t *row = gains_at[0]; left; row += BEATS) {
-        sum += row[__builtin_ctzll(left)];
-        left &= left - 1;
-    }
-    if (sum >= BARE) return 0;
-    size_t ups = __builtin_ctzll(~bits);
-    uint64_t behind = bits >> ups;
-    return closed(t, s, sum, (struct front){ups, ups + (behind ? (uint64_t)__builtin_ctzll(behind) : s)});
+    struct bits bits = packed(t, beats, length);
+    if (!bits.word) return 0;
+    worth sum = worth_of(bits);
+    if (sum[1]) return 0;
+    return closed(t, s, sum[0], bits_front(bits, s));
 }
 
 /* ---- the form ---- */

@@ -33,7 +33,7 @@ uint64_t loopless_run(uint64_t t, uint64_t s, uint8_t *beats, size_t length, uin
 uint64_t loopless_run_changed(uint64_t t, uint64_t s, const uint8_t *beats, size_t length, uint64_t steps);
 
 /* bytes: the check by bytes and a branch on each beat. masks: the check by words and no branch on a beat.
-   words: the beats packed into a word, of which only the ones are visited. */
+   words: the beats packed into words, of which only the ones are visited. */
 uint64_t bytes_number(uint64_t t, uint64_t s, const uint8_t *beats, size_t length);
 uint64_t masks_number(uint64_t t, uint64_t s, const uint8_t *beats, size_t length);
 uint64_t words_number(uint64_t t, uint64_t s, const uint8_t *beats, size_t length);

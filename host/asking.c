@@ -10,7 +10,6 @@
 #include <sys/mman.h>
 #include <unistd.h>
 
-#include "ghanveltri.h"
 #include "independent.h"
 #include "lending.h"
 

@@ -9,7 +9,9 @@
 #include <stddef.h>
 #include <stdint.h>
 
-enum { ROOM = 80 };
+#include "ghanveltri.h"
+
+enum { ROOM = GV_MAX_BEATS + 16 };
 
 /* Counts, and a slice. */
 struct input {

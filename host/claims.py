@@ -3,7 +3,7 @@
 
 An id stands for the name that its comment is about: in the head of a proof or a definition file the names of its line there, elsewhere
 what is defined on the same line, right below, or, in Python, by the function whose text it is. Where there is none, and in the head of
-any other file, it stands for the whole file. The crates come in the order of crates.txt. docs/SHAMS.md repeats the comments of the edits and is passed over.
+any other file, it stands for the whole file. The crates come in the order of crates.txt.
 """
 import re
 import sys
@@ -15,7 +15,6 @@ CLAIMS = "docs/CLAIMS.md"
 HEADER = ("id", "claim", "kind", "where")
 TAG = re.compile(r"\[([A-Za-z]+\d+[A-Za-z]?)\]")
 PARTS = ("README.md", "crates.txt", ".ci", "include", "crates", "host", "bench", "docs")
-PASSED = {CLAIMS, "docs/SHAMS.md"}
 OF_CRATE = ("specs", "src", "proofs", "must-fail")
 PYTHON = r"^(?:def |class )?(\w+)(?=\(|:| = )"
 
@@ -39,7 +38,7 @@ def order(path):
 def files():
     found = [path for part in PARTS for path in ([ROOT / part] if (ROOT / part).is_file() else (ROOT / part).rglob("*"))]
     paths = [str(path.relative_to(ROOT)) for path in found if path.is_file() and "__pycache__" not in path.parts]
-    return sorted((path for path in paths if path not in PASSED), key=order)
+    return sorted((path for path in paths if path != CLAIMS), key=order)
 
 
 def name_of(kind, line):

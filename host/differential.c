@@ -46,7 +46,7 @@ static uint64_t below(uint64_t n) {
 
 /* A number on an edge of a width or a limit, or up to 3 beside it, past 0 and 2^64 too. */
 static uint64_t some_edge(void) {
-    static const uint64_t edges[] = {0, 32, 64, 256, 65536, UINT64_C(1) << 32, UINT64_C(1) << 63};
+    static const uint64_t edges[] = {0, GV_MAX_TASKS, GV_MAX_BEATS, 256, 65536, UINT64_C(1) << 32, UINT64_C(1) << 63};
     return edges[below(sizeof edges / sizeof edges[0])] + below(7) - 3;
 }
 
@@ -152,7 +152,8 @@ static void verify_refusal(uint64_t t, uint64_t s, const char *digits, uint64_t 
 
 static void refused_examples(void) {
     struct input in = {0};
-    verify_refusal(33, 0, "", 1, 0);
+    verify_refusal(GV_MAX_TASKS + 1, 0, "", 1, 0);
+    verify_refusal(200, 0, "", 1, 0);
     verify_refusal(2, 3, "", 2, 0);
     verify_refusal(2, 1, "111", 6, 0);
     verify_refusal(2, 2, "1001", 5, 2);
@@ -169,8 +170,8 @@ static void examples(void) {
         verify_example(&EXAMPLES[at]);
     refused_examples();
     rely(count_by_formula(5, 3) == 28 && count_by_formula(8, 5) == 572, "an example's count", 8, 5);
-    rely(count_by_formula(32, 31) == UINT64_C(55534064877048198), "the largest count", 32, 31);
-    rely(count_by_formula(32, 32) == UINT64_C(55534064877048198), "the largest count", 32, 32);
+    rely(count_by_formula(32, 31) == UINT64_C(55534064877048198), "an example's count", 32, 31);
+    rely(count_by_formula(32, 32) == UINT64_C(55534064877048198), "an example's count", 32, 32);
 }
 
 /* The two ways of host/independent.c. */
@@ -186,6 +187,17 @@ static uint64_t count_by_trying(uint64_t t, uint64_t s) {
         found += is_schedule(t, s, beats, t + s);
     }
     return found;
+}
+
+/* The formula has the addition rule, up to the largest count. */
+static void hold_addition_rule(void) {
+    uint64_t t, s;
+    for (t = 0; t <= GV_MAX_TASKS; t++)
+        for (s = 0; s <= t; s++) {
+            uint64_t fewer_up = s < t ? count_by_formula(t - 1, s) : 0;
+            uint64_t count = s == 0 ? 1 : fewer_up + count_by_formula(t, s - 1);
+            rely(count_by_formula(t, s) == count && count >= fewer_up, "the counts have no addition rule", t, s);
+        }
 }
 
 /* The form of each number is what as many steps lead to, and the circle closes when all forms were met. */
@@ -207,6 +219,9 @@ static void hold_ways_together(uint64_t t, uint64_t s) {
 
 static void two_ways(void) {
     uint64_t t, s;
+    rely(MOST_TASKS == GV_MAX_TASKS && MOST_BEATS == GV_MAX_BEATS && MOST_STEPS == GV_MAX_STEPS,
+         "the header has other limits", MOST_TASKS, MOST_TASKS);
+    hold_addition_rule();
     for (t = 0; t <= extent.small_count; t++)
         for (s = 0; s <= t; s++)
             hold_ways_together(t, s);
@@ -236,7 +251,7 @@ static void verify_small_form(uint64_t t, uint64_t s, uint64_t number, const uin
     verify_run(&in, 1);
     verify_run(&in, 2);
     verify_run(&in, 3 + below(40));
-    verify_run(&in, 65536);
+    verify_run(&in, GV_MAX_STEPS + 1);
     verify_run(&in, UINT64_MAX);
     if (number % 16 == 0)
         verify_run(&in, count_by_formula(t, s));
@@ -300,9 +315,9 @@ static int next_list(struct input *in, uint8_t base) {
 
 /* A list for all counts up to past the limit. */
 static void verify_list(struct input *in) {
-    static const uint64_t steps[] = {0, 1, 2, 65536, UINT64_MAX};
-    for (in->t = 0; in->t <= 33; in->t++)
-        for (in->s = 0; in->s <= 34; in->s++) {
+    static const uint64_t steps[] = {0, 1, 2, GV_MAX_STEPS + 1, UINT64_MAX};
+    for (in->t = 0; in->t <= GV_MAX_TASKS + 1; in->t++)
+        for (in->s = 0; in->s <= GV_MAX_TASKS + 2; in->s++) {
             verify_schedule(in);
             verify_run(in, steps[(in->t + in->beats[0]) % 5]);
         }
@@ -323,7 +338,7 @@ static void lists_of_three(void) {
             for (in.t = 0; in.t <= in.length; in.t++) {
                 in.s = in.length - in.t;
                 verify_schedule(&in);
-                verify_run(&in, 65536);
+                verify_run(&in, GV_MAX_STEPS + 1);
             }
         while (next_list(&in, 3));
 }
@@ -337,21 +352,21 @@ static void counts(void) {
         for (s = 0; s <= 300; s++)
             verify_counts(t, s);
     for (turn = 0; turn < extent.mixed; turn++)
-        verify_counts(some_number(below(40)), some_number(below(40)));
+        verify_counts(some_number(below(GV_MAX_TASKS + 8)), some_number(below(GV_MAX_TASKS + 8)));
 }
 
 static void large_forms(void) {
     uint64_t t, s;
     unsigned turn;
     struct input in = {0};
-    for (t = 0; t <= MOST_TASKS; t++)
+    for (t = 0; t <= GV_MAX_TASKS; t++)
         for (s = 0; s <= t; s++) {
             verify_form_edges(t, s);
             for (turn = 0; turn < extent.large; turn++) {
                 some_form(&in, t, s);
                 verify_schedule(&in);
                 verify_run(&in, below(100));
-                verify_run(&in, some_number(65536));
+                verify_run(&in, some_number(GV_MAX_STEPS + 1));
                 verify_form(&in, below(count_by_formula(t, s)));
                 damage(&in);
                 verify_schedule(&in);
@@ -371,7 +386,7 @@ static void mixed(void) {
     unsigned turn;
     struct input in = {0};
     for (turn = 0; turn < extent.mixed; turn++) {
-        uint64_t t = below(MOST_TASKS + 1);
+        uint64_t t = below(GV_MAX_TASKS + 1);
         some_form(&in, t, below(t + 1));
         if (turn % 2 == 0)
             damage(&in);
@@ -380,7 +395,7 @@ static void mixed(void) {
         if (turn % 8 > 5)
             in.s = some_number(in.s);
         verify_schedule(&in);
-        verify_run(&in, turn % 3 == 0 ? 65536 + below(UINT64_MAX - 65536) : below(20));
+        verify_run(&in, turn % 3 == 0 ? UINT64_MAX - below(UINT64_MAX - GV_MAX_STEPS) : below(20));
         verify_form(&in, some_form_number(&in));
     }
 }
@@ -390,11 +405,11 @@ static void long_runs(void) {
     unsigned turn;
     for (turn = 0; turn < extent.runs; turn++) {
         struct input in = {0};
-        uint64_t t = turn % 4 == 0 ? below(6) : below(MOST_TASKS + 1);
+        uint64_t t = turn % 4 == 0 ? below(6) : below(GV_MAX_TASKS + 1);
         some_form(&in, t, turn % 4 == 1 ? t : below(t + 1));
-        verify_run(&in, turn % 8 == 7 ? below(65536) : 65535);
-        verify_run(&in, 65536);
-        verify_run(&in, (UINT64_C(65535) << 32) + below(3));
+        verify_run(&in, turn % 8 == 7 ? below(GV_MAX_STEPS + 1) : GV_MAX_STEPS);
+        verify_run(&in, GV_MAX_STEPS + 1);
+        verify_run(&in, ((uint64_t)GV_MAX_STEPS << 32) + below(3));
         verify_run(&in, UINT64_MAX);
     }
 }

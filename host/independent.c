@@ -97,22 +97,28 @@ int is_schedule(uint64_t t, uint64_t s, const uint8_t *beats, size_t length) {
     return length == t + s && ones == t;
 }
 
-/* C(n, k) by Pascal's rule, for n up to the most beats; 0 for k above n. */
-static uint64_t choose(uint64_t n, uint64_t k) {
-    static uint64_t rows[MOST_BEATS + 1][MOST_BEATS + 2];
-    size_t row, column;
-    if (rows[0][0] == 0) {
-        for (row = 0; row <= MOST_BEATS; row++) {
-            rows[row][0] = 1;
-            for (column = 1; column <= row; column++)
-                rows[row][column] = rows[row - 1][column - 1] + rows[row - 1][column];
-        }
-    }
-    return rows[n][k];
+/* The greatest common divisor. */
+static uint64_t shared_part(uint64_t a, uint64_t b) {
+    return b == 0 ? a : shared_part(b, a % b);
 }
 
+/* A fraction of a number, which comes out whole. Nothing on the way is larger than the greater of the two. */
+static uint64_t fraction(uint64_t number, uint64_t above, uint64_t below) {
+    uint64_t shared = shared_part(above, below);
+    return number / (below / shared) * (above / shared);
+}
+
+/*
+ * C(t + s, t) - C(t + s, t + 1) is C(t + s, t) (t + 1 - s) / (t + 1), and so the count of t, s - 1 times
+ * (t + s) (t + 1 - s) / (s (t + 2 - s)). The binomials themselves would not fit 64 bits from C(68, 34) on.
+ */
 uint64_t count_by_formula(uint64_t t, uint64_t s) {
-    return s == 0 ? 1 : choose(t + s, t) - choose(t + s, t + 1);
+    static uint64_t counts[MOST_TASKS + 1][MOST_TASKS + 1];
+    if (counts[t][s] == 0 && s == 0)
+        counts[t][s] = 1;
+    else if (counts[t][s] == 0)
+        counts[t][s] = fraction(count_by_formula(t, s - 1), (t + s) * (t + 1 - s), s * (t + 2 - s));
+    return counts[t][s];
 }
 
 void write_first(uint64_t t, uint64_t s, uint8_t *out) {
@@ -194,7 +200,7 @@ static uint64_t place_in_list(uint64_t t, uint64_t s, const uint8_t *beats) {
     uint64_t i;
     while (last > 0 && beats[last - 1] == 0)
         last--;
-    /* The last 1 is at position `last`; behind it are s - i zeros. */
+    /* The last 1 is at position `last`; after it are s - i zeros. */
     i = last - t;
     if (i == 0)
         return count_by_formula(t, s) - 1;
@@ -223,6 +229,5 @@ uint64_t number_by_groups(uint64_t t, uint64_t s, const uint8_t *beats) {
 }
 
 void form_by_groups(uint64_t t, uint64_t s, uint64_t number, uint8_t *out) {
-    uint64_t forms = count_by_formula(t, s);
-    write_at_place(t, s, (number + forms - 1) % forms, out);
+    write_at_place(t, s, number == 0 ? count_by_formula(t, s) - 1 : number - 1, out);
 }

@@ -12,7 +12,15 @@
 #include <stddef.h>
 #include <stdint.h>
 
-enum { MOST_TASKS = 32, MOST_BEATS = 64, MOST_STEPS = 65535 };
+/* The most tasks that a schedule takes up. The other sizes follow from it. */
+#ifndef MOST_TASKS
+#define MOST_TASKS 32
+#endif
+
+enum { MOST_BEATS = 2 * MOST_TASKS, MOST_STEPS = 65535 };
+
+/* With more than 36 tasks there are counts that 64 bits do not hold: this line does not compile then. */
+typedef char counts_fit_64_bits[MOST_TASKS <= 36 ? 1 : -1];
 
 /* A refusal's number and place, both 0 for an accepted call. */
 struct verdict {

@@ -19,7 +19,7 @@ static const uint8_t *readable; /* the same page, mapped for reading only */
 
 static struct {
     uint8_t *slice;
-    size_t length, before, behind;
+    size_t length, before, after;
 } lent;
 
 /* The three pages of a file, the outer ones shut; NULL where that fails. */
@@ -46,7 +46,7 @@ int open_lending(void) {
     return writable != NULL && readable != NULL;
 }
 
-/* Where the next slice goes: behind one shut page, before the other, or away from both at any alignment. */
+/* Where the next slice goes: after one shut page, before the other, or away from both at any alignment. */
 static uint8_t *next_slice(size_t length) {
     static uint32_t turn;
     turn = turn * 1664525 + 1013904223;
@@ -68,10 +68,10 @@ uint8_t *lend(const uint8_t *bytes, size_t length) {
     lent.slice = next_slice(length);
     lent.length = length;
     lent.before = least(GUARD, (size_t)(lent.slice - writable));
-    lent.behind = least(GUARD, (size_t)(writable + page - (lent.slice + length)));
+    lent.after = least(GUARD, (size_t)(writable + page - (lent.slice + length)));
     memcpy(lent.slice - lent.before, guard, lent.before);
     memcpy(lent.slice, bytes, length);
-    memcpy(lent.slice + length, guard, lent.behind);
+    memcpy(lent.slice + length, guard, lent.after);
     return lent.slice;
 }
 
@@ -85,5 +85,5 @@ const uint8_t *lent_bytes(void) {
 
 int guards_hold(void) {
     return memcmp(lent.slice - lent.before, guard, lent.before) == 0 &&
-           memcmp(lent.slice + lent.length, guard, lent.behind) == 0;
+           memcmp(lent.slice + lent.length, guard, lent.after) == 0;
 }

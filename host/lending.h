@@ -1,7 +1,7 @@
 /*
  * Memory for host/asking.c to lend to one call at a time, such that a call that leaves its slice is caught.
  * Up to GUARD bytes on each side of the slice are known and compared. Often the slice lies flush with a page
- * that can be neither read nor written, behind it or before it, and a slice that is lent for reading lies in
+ * that can be neither read nor written, after it or before it, and a slice that is lent for reading lies in
  * memory that cannot be written: there the call ends in a signal.
  */
 #ifndef LENDING_H

@@ -1,8 +1,10 @@
-"""The manual once more, as plainly as it can be written, for the tests: slow, and sharing no code and no idea with crates/.
+"""The manual once more, as plainly as it can be written, for the tests: slow, and sharing no code and no idea with
+crates/.
 
-count(t, s) and check(t, s, beats) answer refusal and place as the document's table does; successor(t, s, beats) is the step.
-form_of(t, s, n) and number_of(t, s, beats) are the form of a number and the number of a form, by the groups of source 000's list
-and not by walking. tree(n, ..) and schedule_of_tree(n, ..) go by nested pairs, read from the beats or from the tables.
+count(t, s) and check(t, s, beats) answer refusal and place as the document's table does; successor(t, s, beats) is the
+step. form_of(t, s, n) and number_of(t, s, beats) are the form of a number and the number of a form, by the groups of
+source 000's list and not by walking. tree(n, ..) and schedule_of_tree(n, ..) go by nested pairs, read from the beats or
+from the tables.
 """
 from functools import cache
 from itertools import product
@@ -10,7 +12,9 @@ from math import comb
 
 from verifying import sure
 
-LARGEST = 32
+LARGEST = 32  # the largest number of tasks that a schedule takes up, here and in all that takes it from here
+BEATS = 2 * LARGEST  # of the longest schedule
+MOST_STEPS = 65535  # of a run
 ACCEPTED = (0, 0)
 
 # Table 1 of source 000, as printed there: row t, column s. [P8]
@@ -102,7 +106,7 @@ def changed(old, new):
 def run(t, s, beats, k):
     """Refusal, place, changed beats and the schedule left."""
     refusal, place = check(t, s, beats)
-    if not refusal and k > 65535:
+    if not refusal and k > MOST_STEPS:
         refusal = 13
     if refusal:
         return (refusal, place, 0, beats)
@@ -127,7 +131,7 @@ def listed(t, s, place):
         if place < size:
             return listed(t - 1, i, place) + [1] + [0] * (s - i)
         place -= size
-    sure(place == 0, f"the list S of ({t}, {s}) has no form so far behind its groups")
+    sure(place == 0, f"the list S of ({t}, {s}) has no form so far after its groups")
     return [1] * t + [0] * s
 
 
@@ -177,14 +181,15 @@ def form_on_sheet(t, s, n, sheet, column):
 
 
 def tree_of(beats):
-    """The binary tree of a closed schedule, its final leaf put back: None for a leaf, the pair of its parts for a node."""
+    """The binary tree of a closed schedule, its final leaf put back: None for a leaf, for a node the pair of its parts.
+    """
     word = iter(beats + [0])
 
     def read():
         return (read(), read()) if next(word) else None
 
     root = read()
-    sure(next(word, None) is None, "beats go on behind the tree")
+    sure(next(word, None) is None, "beats go on after the tree")
     return root
 
 

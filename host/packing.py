@@ -1,8 +1,9 @@
 #!/usr/bin/env python3
-"""The packing list of the manual once more, on top of the oracle, for the tests [E11]: host/packing.py < records > lines.
+"""The manual's packing list once more, on top of the oracle, for the tests [E11]: host/packing.py < records > lines.
 
-line_of(data, at) reads the record that starts at data[at:], in the reading order of the document; lines(data) is the whole list.
-record(kind, t, s, beats) makes a record's bytes. The slice that a reader lends is taken to be large enough, so there is no 12.
+line_of(data, at) reads the record that starts at data[at:], in the reading order of the document; lines(data) is the
+whole list. record(kind, t, s, beats) makes a record's bytes. The slice that a reader lends is taken to be large enough,
+so there is no 12.
 """
 import functools
 import sys
@@ -14,7 +15,7 @@ NUMBERED, PACKED = 1, 2
 
 
 def framed(body):
-    """A record: the length of everything behind it, and that."""
+    """A record: the length of everything after it, and that."""
     return len(body).to_bytes(2, "little") + body
 
 
@@ -60,7 +61,7 @@ def packed_line(t, s, packs):
 # Streams of the tests repeat records.
 @functools.lru_cache(1 << 16)
 def body_line(body):
-    """The line of what stands behind the length, all of it there."""
+    """The line of what stands after the length, all of it there."""
     if len(body) < 2:
         return refused(11)
     kind = int.from_bytes(body[:2], "little")
@@ -78,7 +79,7 @@ def body_line(body):
 
 
 def line_of(data, at):
-    """The line of the record at data[at:], the bytes it consumes, and whether the list stops behind this line."""
+    """The line of the record at data[at:], the bytes it consumes, and whether the list stops after this line."""
     length = int.from_bytes(data[at : at + 2], "little")
     end = at + 2 + length
     if end > len(data) or length > LONGEST:

@@ -1,8 +1,8 @@
 #!/usr/bin/env python3
 """Makes records for the packing list, the same for the same seed: host/records.py [--valid] SEED COUNT > records.
 
-Mixed records of both kinds, about 15 in 100 of them to be refused, by every refusal that a whole record can get; with --valid none.
-Every record is whole, so a list of them never stops before its end.
+Mixed records of both kinds, about 15 in 100 of them to be refused, by every refusal that a whole record can get; with
+--valid none. Every record is whole, so a list of them never stops before its end.
 """
 import random
 import sys
@@ -12,6 +12,7 @@ import packing
 
 REFUSED_SHARE = 0.15
 TOP = 2**64 - 1
+WIDTH = oracle.forms(oracle.LARGEST, oracle.LARGEST).bit_length()  # of the largest count
 
 
 def counts(rng):
@@ -33,7 +34,7 @@ def number(rng, t, s):
         return 0
     if how < 0.04:
         return top
-    return min(top, rng.getrandbits(rng.randrange(1, 57))) if how < 0.2 else rng.randrange(top + 1)
+    return min(top, rng.getrandbits(rng.randrange(1, WIDTH + 1))) if how < 0.2 else rng.randrange(top + 1)
 
 
 def valid(rng):
@@ -83,7 +84,7 @@ def unused_bits(rng):
 
 
 def wrong_length(rng):
-    """A valid record's bytes, cut or drawn out, behind the length that they then have."""
+    """A valid record's bytes, cut or drawn out, after the length that they then have."""
     body = valid(rng)[2:]
     length = rng.choice((2, 3, 4, 11, 13, len(body) - 1, len(body) + 1, rng.randrange(2, 41)))
     return packing.framed((body + noise(rng, max(0, length - len(body))))[:length])
@@ -108,7 +109,8 @@ def unknown_kind(rng):
 def counts_not_allowed(rng):
     """Counts changed in a valid record: t above the largest, s above t, or any."""
     whole = valid(rng)
-    t, s = rng.choice(((33, whole[5]), (255, whole[5]), (whole[4], whole[4] + 1), (whole[4], 255), tuple(noise(rng, 2))))
+    t, s, above = whole[4], whole[5], oracle.LARGEST + 1
+    t, s = rng.choice(((above, s), (255, s), (t, t + 1), (t, 255), tuple(noise(rng, 2))))
     return whole[:4] + bytes([t, s]) + whole[6:]
 
 

@@ -1,10 +1,11 @@
 #!/usr/bin/env python3
 """Holds every line of the stored outputs crates/cases_*/stdout to the oracle: verify_cases.py [KIND ..].
 
-Each program has the lines that it must have: all of Table 1 of source 000, the words of Figure 2.3 of source 001, every pair of counts or
-every count where a kind of line goes through them, the manual's examples that are no theorems, and of every other kind as many lines
-as are stated here. Then what a line says of its input is worked out anew; of these kinds alone, where some are given. Prints a line for
-each kind that was verified, and fails on a line that is missing, that is wrong, or that it cannot read.
+Each program has the lines that it must have: all of Table 1 of source 000, the words of Figure 2.3 of source 001, every
+pair of counts or every count where a kind of line goes through them, the manual's examples that are no theorems, and of
+every other kind as many lines as are stated here. Then what a line says of its input is worked out anew; of these kinds
+alone, where some are given. Prints a line for each kind that was verified, and fails on a line that is missing, that is
+wrong, or that it cannot read.
 """
 import collections
 import itertools
@@ -16,6 +17,11 @@ import packing
 from verifying import ROOT, Wrong, contents, ended, sure
 
 
+LARGEST = oracle.LARGEST
+PLACES = oracle.BEATS + 2  # that the programs lend to a reader, where a line does not say how many
+ROOM = 16  # and to a writer
+
+
 def pairs(largest):
     """The allowed counts t, s with t up to a number, as the programs print them."""
     return [f"{t} {s}" for t in range(largest + 1) for s in range(t + 1)]
@@ -25,11 +31,11 @@ def pairs(largest):
 TABLE_1 = range(9)  # the rows t of Table 1 of source 000; row t has the columns s from 0 to t
 FIGURE_2_3, WORDS = "4 4", 14  # the counts of the words of Figure 2.3 of source 001, and how many words there are
 THROUGH = {
-    "cases_ground": {"counts": [f"of {t}" for t in range(oracle.LARGEST + 1)], "lists": [f"of {t}" for t in TABLE_1]},
+    "cases_ground": {"counts": [f"of {t}" for t in range(LARGEST + 1)], "lists": [f"of {t}" for t in TABLE_1]},
     "cases_walk": {"order": pairs(4), "round": pairs(8)},
-    "cases_number": {"both": pairs(8), "ends": pairs(oracle.LARGEST)},
+    "cases_number": {"both": pairs(8), "ends": pairs(LARGEST)},
     "cases_tree": {"trees": [*range(8)], "combinations": [1, 2]},
-    "cases_record": {"records": pairs(7), "scattered": [*range(8, oracle.LARGEST + 1)]},
+    "cases_record": {"records": pairs(7), "scattered": [*range(8, LARGEST + 1)]},
 }
 # How many lines each program has of the other kinds, and those of them that the manual gives.
 STATED = {
@@ -40,7 +46,7 @@ STATED = {
     "cases_record": {"write": 261, "read": 271, "filled": 16, "changes": 9},
 }
 EXAMPLES = {
-    "cases_ground": ("count 33 0", "count 2 3", "check 2 1 111", "check 2 2 1001", "check 2 1 11"),
+    "cases_ground": (f"count {LARGEST + 1} 0", "count 2 3", "check 2 1 111", "check 2 2 1001", "check 2 1 11"),
     "cases_walk": ("run 65535 3 2 11100", "run 65536 2 1 110"),
     "cases_number": ("form 3 2 4 5", "form 3 2 5 5"),
     "cases_tree": ("tree 6 111001001100 6 6 6", "back 1 0 0 1 2"),
@@ -138,11 +144,12 @@ def changed(t, s, text):
 
 
 def both(t, s):
-    """Every form by its number: the circle as it is walked, which is also what the groups of the list give, both ways. [E7b]"""
+    """Every form by its number: the circle as it is walked, which the groups of the list give too, both ways. [E7b]"""
     t, s = int(t), int(s)
     forms = circle(t, s)
     sure(forms == [oracle.form_of(t, s, n) for n in range(len(forms))], "the circle is not the list of the groups")
-    sure([oracle.number_of(t, s, f) for f in forms] == list(range(len(forms))), "the groups do not give the numbers of the circle")
+    numbers = [oracle.number_of(t, s, f) for f in forms]
+    sure(numbers == list(range(len(forms))), "the groups do not give the numbers of the circle")
     return f"{len(forms)} {digest(forms)}"
 
 
@@ -154,7 +161,7 @@ def chosen(n):
 
 
 def ends(t, s):
-    """The last number, the refusal of the next one, and the digest of some forms, each of which has its number. [E7b]"""
+    """The last number, the refusal of the next, and the digest of some forms, each of which has its number. [E7b]"""
     t, s = int(t), int(s)
     n = oracle.forms(t, s)
     forms = [oracle.form_of(t, s, x) for x in chosen(n)]
@@ -232,7 +239,7 @@ def damaged(tables):
     """The tables with one entry changed, each entry to each value that the program takes."""
     for which, table in enumerate(tables):
         for node, entry in enumerate(table, 1):
-            for value in (0, (entry + 1) % 256, (entry - 1) % 256, node, 33 - node, 33, 255):
+            for value in (0, (entry + 1) % 256, (entry - 1) % 256, node, LARGEST + 1 - node, LARGEST + 1, 255):
                 if value != entry:
                     other = table[: node - 1] + [value] + table[node:]
                     yield tables[:which] + [other] + tables[which + 1 :]
@@ -240,9 +247,9 @@ def damaged(tables):
 
 def damage(text):
     beats = beats_of(text)
-    sure(oracle.is_schedule(32, 32, beats), "the beats are no schedule of (32, 32)")
+    sure(oracle.is_schedule(LARGEST, LARGEST, beats), f"the beats are no schedule of ({LARGEST}, {LARGEST})")
     whole = oracle.tables_of(oracle.tree_of(beats))
-    backs = [after_back(32, tables) for tables in damaged(whole)]
+    backs = [after_back(LARGEST, tables) for tables in damaged(whole)]
     return tally(backs, backs)
 
 
@@ -262,8 +269,9 @@ def write(kind, t, s, text, room):
 
 
 def reading(data, room):
-    """What reading in so many places that are 7 answers (refusal, place, t, s, number and bytes consumed), and the places left."""
-    line, consumed, _ = packing.line_of(bytes(data), 0) if room >= 64 else (packing.refused(12), 0, False)
+    """What reading in so many places that are 7 answers (refusal, place, t, s, number and bytes consumed), and the
+    places left."""
+    line, consumed, _ = packing.line_of(bytes(data), 0) if room >= oracle.BEATS else (packing.refused(12), 0, False)
     *numbers, last = line.split()
     if numbers[0] == "refused":
         return ((int(numbers[1]), int(last), 0, 0, 0, consumed), [7] * room)
@@ -281,17 +289,17 @@ def read(text, room):
 
 
 def filled(text, length):
-    """Some bytes, and zeros behind them."""
+    """Some bytes, and zeros after them."""
     head = beats_of(text)
-    return read_line(head + [0] * (int(length) - len(head)), 66)
+    return read_line(head + [0] * (int(length) - len(head)), PLACES)
 
 
 def there_and_back(forms):
     """How many records of some forms, in each kind, say the form again, and the digest of both calls of each."""
     same, calls = 0, []
     for (t, s, beats), kind in itertools.product(forms, (packing.NUMBERED, packing.PACKED)):
-        written, record = writing(kind, t, s, beats, 16)
-        said, left = reading(record, 66)
+        written, record = writing(kind, t, s, beats, ROOM)
+        said, left = reading(record, PLACES)
         same += said == (0, 0, t, s, oracle.number_of(t, s, beats), written[2]) and left[: t + s] == beats
         calls += [written, record, said, left]
     sure(same == 2 * len(forms), "a record does not say its form again")
@@ -314,7 +322,8 @@ def scattered(t):
 def changes(text):
     """Each byte of a record set to each value: how many of these are accepted, and the digest."""
     data = beats_of(text)
-    readings = [reading(data[:at] + [value] + data[at + 1 :], 66) for at in range(len(data)) for value in range(256)]
+    others = (data[:at] + [value] + data[at + 1 :] for at in range(len(data)) for value in range(256))
+    readings = [reading(other, PLACES) for other in others]
     accepted = sum(1 for said, _ in readings if said[0] == 0)
     return f"{accepted} {digest(itertools.chain(*readings))}"
 
@@ -397,13 +406,15 @@ def stored():
     """The lines of each program's stored output, by its path."""
     programs = {path.name for path in ROOT.glob("crates/cases_*")}
     sure(programs == STATED.keys(), f"the programs are {sorted(programs)}, and {sorted(STATED)} are known here")
-    return {f"crates/{program}/stdout": contents(f"crates/{program}/stdout").splitlines() for program in sorted(programs)}
+    paths = [f"crates/{program}/stdout" for program in sorted(programs)]
+    return {path: contents(path).splitlines() for path in paths}
 
 
 def main():
     chosen = sys.argv[1:] or [kind for kind, *_ in KINDS]
     unknown = set(chosen) - {kind for kind, *_ in KINDS}
-    sure(not unknown, f"no kind of line: {' '.join(sorted(unknown))}; the kinds are {' '.join(kind for kind, *_ in KINDS)}")
+    kinds = " ".join(kind for kind, *_ in KINDS)
+    sure(not unknown, f"no kind of line: {' '.join(sorted(unknown))}; the kinds are {kinds}")
     outputs = stored()
     found = [*source_faults()]
     for path, lines in outputs.items():

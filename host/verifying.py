@@ -75,12 +75,6 @@ def language(path):
     return None if not first.startswith(b"#!") else "py" if b"python" in first else "sh"
 
 
-def comments(path):
-    """The comments of a file, one after the other; of a page all of it."""
-    pattern = COMMENT.get(language(path))
-    return "\n".join(found.group() for found in re.finditer(pattern, contents(path))) if pattern else ""
-
-
 def code(path):
     """A file without its comments."""
     pattern = COMMENT.get(language(path))

@@ -10,7 +10,7 @@ use lib.ListN.{getD}
 use Rattle.bounded.specs.Bounded.{every, firstFrom}
 use Rattle.refusal.specs.declared.Refusal.the-variants.{RunTooLong}
 use Rattle.refusal.specs.declared.Verdict.{Verdict}
-use Rattle.refusal.specs.Order.{judge}
+use Rattle.refusal.specs.Rows.{judge}
 use Rattle.triangle.specs.Count.{N}
 use Rattle.schedule.specs.Schedule.{ones, zeros, Schedule, isSchedule}
 use Rattle.schedule.proofs.Hand.{plays, plays-schedule}

@@ -19,8 +19,8 @@ use Rattle.refusal.specs.declared.Refusal.{Refusal}
 use Rattle.refusal.specs.declared.Refusal.the-variants.{RunTooLong}
 use Rattle.refusal.specs.declared.Verdict.{Verdict}
 use Rattle.refusal.specs.Answer.{answer, left}
-use Rattle.refusal.specs.Order.{_⇒_, judge}
-use Rattle.refusal.proofs.Order.{judge-refused, judge-accepted, judge-front, judge-back}
+use Rattle.refusal.specs.Rows.{_⇒_, judge}
+use Rattle.refusal.proofs.Rows.{judge-refused, judge-accepted, judge-front, judge-back}
 use Rattle.refusal.proofs.Theorems.{accepted-none}
 use Rattle.schedule.specs.Schedule.{Schedule}
 use Rattle.schedule.specs.Check.{checkRows, checked}
@@ -29,7 +29,7 @@ use Rattle.schedule.proofs.Theorems.{accepted-schedule}
 use Rattle.circle.specs.Step.{next}
 use Rattle.circle.specs.Walk.{steps, changed, worked}
 use Rattle.circle.specs.Plan.{Form}
-use Rattle.circle.specs.Answers.{longest, runRows}
+use Rattle.circle.specs.Answers.{mostSteps, runRows}
 use Rattle.circle.proofs.Circle.{next-schedule}
 use Rattle.circle.proofs.Work.{Work, idle, turn, swap, dip, next-work, changed-self, turn-two, swap-two, dip-four}
 
@@ -45,19 +45,19 @@ accepted-so e {n = n} q {done = done} d lent = (ap Answer.Value q ∙ ap (λ (v 
 -- the verdict on a run, from the check's
 module _ (t s : ℕ) (b : List ℕ) (k : ℕ) where
   pub run-refused : {why : Refusal} → checked t s b ≡ Verdict.Refused why → judge (runRows t s b k) ≡ Verdict.Refused why
-  run-refused {why} e = judge-refused (checkRows t s b) ((ltb longest k ⇒ RunTooLong) ∷ []) why e
+  run-refused {why} e = judge-refused (checkRows t s b) ((ltb mostSteps k ⇒ RunTooLong) ∷ []) why e
 
-  pub run-long : checked t s b ≡ Verdict.Accepted → longest < k → judge (runRows t s b k) ≡ Verdict.Refused RunTooLong
-  run-long e h = judge-accepted (checkRows t s b) ((ltb longest k ⇒ RunTooLong) ∷ []) e ∙ simp (lt-ltb longest k h)
+  pub run-long : checked t s b ≡ Verdict.Accepted → mostSteps < k → judge (runRows t s b k) ≡ Verdict.Refused RunTooLong
+  run-long e h = judge-accepted (checkRows t s b) ((ltb mostSteps k ⇒ RunTooLong) ∷ []) e ∙ simp (lt-ltb mostSteps k h)
 
-  pub run-taken : checked t s b ≡ Verdict.Accepted → k ≤ longest → judge (runRows t s b k) ≡ Verdict.Accepted
-  run-taken e h = judge-accepted (checkRows t s b) ((ltb longest k ⇒ RunTooLong) ∷ []) e ∙ simp (le-ltb longest k h)
+  pub run-taken : checked t s b ≡ Verdict.Accepted → k ≤ mostSteps → judge (runRows t s b k) ≡ Verdict.Accepted
+  run-taken e h = judge-accepted (checkRows t s b) ((ltb mostSteps k ⇒ RunTooLong) ∷ []) e ∙ simp (le-ltb mostSteps k h)
 
-  pub run-allowed : judge (runRows t s b k) ≡ Verdict.Accepted → (checked t s b ≡ Verdict.Accepted) × (k ≤ longest)
+  pub run-allowed : judge (runRows t s b k) ≡ Verdict.Accepted → (checked t s b ≡ Verdict.Accepted) × (k ≤ mostSteps)
   run-allowed e =
-      let long = (ltb longest k ⇒ RunTooLong) in
+      let long = (ltb mostSteps k ⇒ RunTooLong) in
       let none = accepted-none (long ∷ []) (judge-back (checkRows t s b) (long ∷ []) e) long (List·Memᴰ·head refl) in
-      (judge-front (checkRows t s b) (long ∷ []) e, ltb-false longest k none)
+      (judge-front (checkRows t s b) (long ∷ []) e, ltb-false mostSteps k none)
 
 own-counts : {t s : ℕ} {b : List ℕ} → Schedule t s b → Form b
 own-counts p = plays-schedule (schedule-plays p) refl refl

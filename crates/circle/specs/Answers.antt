@@ -1,6 +1,6 @@
 -- What the step and the run answer and leave, the manual, "The step" and "Refusal numbers" (Order: schedules).
 -- Definitions only.
---     longest           the most steps that a run may have [A6]
+--     mostSteps         the most steps that a run may have [A6]
 --     runRows           the refusals of a run, in their order: those of the schedule, then 13 [R6]
 --     nextAnswer, nextLeft     of one step: the changed beats, and the next form
 --     runAnswer, runLeft       of a run of k steps: the changed beats of them all, and the form k steps on [D3g]
@@ -10,16 +10,16 @@ use lib.Dec.{ltb}
 use Rattle.refusal.specs.declared.Answer.{Answer}
 use Rattle.refusal.specs.declared.Refusal.the-variants.{RunTooLong}
 use Rattle.refusal.specs.Answer.{answer, left}
-use Rattle.refusal.specs.Order.{Row, _⇒_, judge}
+use Rattle.refusal.specs.Rows.{Row, _⇒_, judge}
 use Rattle.schedule.specs.Check.{checkRows, checked}
 use Rattle.circle.specs.Step.{next}
 use Rattle.circle.specs.Walk.{steps, changed, worked}
 
-abbrev pub longest : ℕ
-longest = 65535
+abbrev pub mostSteps : ℕ
+mostSteps = 65535
 
 abbrev pub runRows : ℕ → ℕ → List ℕ → ℕ → List Row
-runRows t s b k = checkRows t s b ++ (ltb longest k ⇒ RunTooLong) ∷ []
+runRows t s b k = checkRows t s b ++ (ltb mostSteps k ⇒ RunTooLong) ∷ []
 
 abbrev pub nextAnswer : ℕ → ℕ → List ℕ → Answer
 nextAnswer t s b = answer (checked t s b) (changed b (next b))

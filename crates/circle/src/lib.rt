@@ -5,11 +5,11 @@
 ghost use mathlib.Core.Path.{_≡_};
 ghost use Prim.Native.Nat.{_≤_};
 ghost use lib.ListN.{length};
-ghost use Rattle.refusal.specs.Order.{judge};
+ghost use Rattle.refusal.specs.Rows.{judge};
 ghost use Rattle.circle.specs.Walk.{steps, worked};
 ghost use Rattle.circle.specs.Plan.{Form, Inside, Plans, applied};
 ghost use Rattle.circle.specs.Plan.{changes as Plan·changes};
-ghost use Rattle.circle.specs.Answers.{longest, nextAnswer, nextLeft, runRows, runAnswer, runLeft};
+ghost use Rattle.circle.specs.Answers.{mostSteps, nextAnswer, nextLeft, runRows, runAnswer, runLeft};
 ghost use Rattle.circle.specs.Step.{next as Step·next};
 ghost use Rattle.circle.specs.Walk.{changed as Walk·changed};
 use refusal::Answer;
@@ -98,7 +98,7 @@ fn step(beats: &mut [u8]) -> u64
 
 // Takes k steps in place, and answers their changed beats added up.
 fn walk(beats: &mut [u8], k: u64) -> u64
-    requires { ⌜ Form (now beats) × (k ≤ longest) ⌝ }
+    requires { ⌜ Form (now beats) × (k ≤ mostSteps) ⌝ }
     ensures { λ _. ⌜ now (beats .exit) ≡ steps k (now (beats .entry)) ⌝ }
     ensures { λ r. ⌜ r ≡ worked k (now (beats .entry)) ⌝ }
 {
@@ -111,7 +111,7 @@ fn walk(beats: &mut [u8], k: u64) -> u64
 
 // Takes k steps in a copy of the beats, and answers their changed beats added up.
 fn walk_copy(beats: &[u8], room: &mut [u8], k: u64) -> u64
-    requires { ⌜ Form (now beats) × (length (now room) ≡ length (now beats)) × (k ≤ longest) ⌝ }
+    requires { ⌜ Form (now beats) × (length (now room) ≡ length (now beats)) × (k ≤ mostSteps) ⌝ }
     ensures { λ r. ⌜ r ≡ worked k (now (beats .entry)) ⌝ }
 {
     bytes::copy(beats, room);

@@ -8,7 +8,7 @@ use borrow.Author.Tests.{lt-ltb, le-ltb, ltb-false}
 use lib.Dec.{ltb}
 use Rattle.refusal.specs.declared.Verdict.{Verdict}
 use Rattle.refusal.specs.declared.Refusal.the-variants.{TooManyTasks, MoreDownThanUp}
-use Rattle.refusal.specs.Order.{judge, _⇒_}
+use Rattle.refusal.specs.Rows.{judge, _⇒_}
 use Rattle.refusal.proofs.Theorems.{accepted-none}
 use Rattle.triangle.specs.Count.{largest}
 use Rattle.counts.specs.Counts.{Allowed, countRows}

@@ -8,7 +8,7 @@ use lib.Dec.{ltb}
 use Rattle.refusal.specs.declared.Answer.{Answer}
 use Rattle.refusal.specs.declared.Refusal.the-variants.{TooManyTasks, MoreDownThanUp}
 use Rattle.refusal.specs.Answer.{answer}
-use Rattle.refusal.specs.Order.{Row, _⇒_, judge}
+use Rattle.refusal.specs.Rows.{Row, _⇒_, judge}
 use Rattle.triangle.specs.Count.{N, largest}
 
 abbrev pub Allowed : ℕ → ℕ → Type 0

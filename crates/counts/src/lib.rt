@@ -1,7 +1,7 @@
 // Which counts are allowed, and how many forms they have: the manual, "A schedule" (sizes) and
 // "How many forms". The contracts cite specs/Counts.
 ghost use mathlib.Core.Path.{_≡_};
-ghost use Rattle.refusal.specs.Order.{judge};
+ghost use Rattle.refusal.specs.Rows.{judge};
 ghost use Rattle.counts.specs.Counts.{countRows, counting};
 use refusal::Answer;
 use refusal::Refusal;

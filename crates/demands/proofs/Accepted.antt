@@ -18,8 +18,8 @@ use Rattle.form.specs.Answers.{numberRows, sheetVerdict}
 use Rattle.refusal.specs.declared.Refusal.the-variants.{UnknownKind, NoRoom, RunTooLong}
 use Rattle.refusal.specs.declared.Verdict.{Verdict}
 use Rattle.refusal.specs.Answer.{answer, verdict}
-use Rattle.refusal.specs.Order.{_⇒_, judge}
-use Rattle.refusal.proofs.Order.{judge-front, judge-back}
+use Rattle.refusal.specs.Rows.{_⇒_, judge}
+use Rattle.refusal.proofs.Rows.{judge-front, judge-back}
 use Rattle.refusal.proofs.Theorems.{verdict-answer, accepted-none}
 use Rattle.triangle.specs.Count.{largest}
 use Rattle.counts.specs.Counts.{Allowed}
@@ -27,7 +27,7 @@ use Rattle.counts.proofs.Sizes.{counts-allowed}
 use Rattle.schedule.specs.Schedule.{Schedule}
 use Rattle.schedule.specs.Check.{checkRows, checked}
 use Rattle.schedule.proofs.Theorems.{accepted-schedule}
-use Rattle.circle.specs.Answers.{longest, runRows}
+use Rattle.circle.specs.Answers.{mostSteps, runRows}
 use Rattle.form.proofs.Verdicts.{number-allowed, form-allowed}
 use Rattle.tree.specs.Table.{Treed, filled, kept}
 use Rattle.tree.proofs.Sizes.{sizes-right}
@@ -48,7 +48,7 @@ pub taken : (v : Verdict) (n : ℕ) → Verdict.Accepted ≡ verdict (answer v n
 taken v n e = sym (e ∙ verdict-answer v n)
 
 run-checked : (t s : ℕ) (b : List ℕ) (k : ℕ) → judge (runRows t s b k) ≡ Verdict.Accepted → checked t s b ≡ Verdict.Accepted
-run-checked t s b k e = judge-front (checkRows t s b) ((ltb longest k ⇒ RunTooLong) ∷ []) e
+run-checked t s b k e = judge-front (checkRows t s b) ((ltb mostSteps k ⇒ RunTooLong) ∷ []) e
 
 write-checked : (kind t s : ℕ) (b out : List ℕ) → judge (writeRows kind t s b out) ≡ Verdict.Accepted → checked t s b ≡ Verdict.Accepted
 write-checked kind t s b out e =

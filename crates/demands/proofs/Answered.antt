@@ -6,7 +6,7 @@ use mathlib.Core.Path.{_≡_, refl}
 use Prim.Native.Nat.{ℕ}
 use Rattle.refusal.specs.declared.Refusal.the-variants.{NoSuchTables}
 use Rattle.refusal.specs.declared.Verdict.{Verdict}
-use Rattle.refusal.specs.Order.{judge}
+use Rattle.refusal.specs.Rows.{judge}
 use Rattle.tree.specs.Table.{treeRows, lentRows, filled, kept}
 use Rattle.tree.proofs.Theorems.{closed-has, tree-accepts}
 use Rattle.tree_back.specs.Back.{found, none, unfit}

@@ -12,7 +12,7 @@ use Rattle.refusal.specs.Answer.{left}
 use Rattle.refusal.specs.declared.Answer.{Answer}
 use Rattle.refusal.specs.declared.Refusal.{Refusal}
 use Rattle.refusal.specs.declared.Verdict.{Verdict}
-use Rattle.refusal.specs.Order.{judge}
+use Rattle.refusal.specs.Rows.{judge}
 use Rattle.refusal.proofs.Theorems.{verdict-answer}
 use Rattle.counts.specs.Counts.{counting}
 use Rattle.schedule.specs.Check.{checked}

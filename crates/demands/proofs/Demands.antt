@@ -15,8 +15,8 @@ use Rattle.refusal.specs.declared.Answer.{Answer}
 use Rattle.refusal.specs.declared.Refusal.the-variants.{RunTooLong}
 use Rattle.refusal.specs.declared.Verdict.{Verdict}
 use Rattle.refusal.specs.Answer.{answer, value, left}
-use Rattle.refusal.specs.Order.{_⇒_, judge}
-use Rattle.refusal.proofs.Order.{judge-back}
+use Rattle.refusal.specs.Rows.{_⇒_, judge}
+use Rattle.refusal.proofs.Rows.{judge-back}
 use Rattle.refusal.proofs.Theorems.{accepted-none, refused-number}
 use Rattle.triangle.specs.Count.{N}
 use Rattle.triangle.proofs.Count.{N-pos}
@@ -25,7 +25,7 @@ use Rattle.counts.proofs.Sizes.{allowed-counts}
 use Rattle.schedule.specs.Schedule.{Schedule}
 use Rattle.schedule.specs.Check.{checkRows, checked}
 use Rattle.schedule.proofs.Theorems.{accepted-schedule, schedule-accepted, N-schedules, lists-N}
-use Rattle.circle.specs.Answers.{longest, runRows, runLeft}
+use Rattle.circle.specs.Answers.{mostSteps, runRows, runLeft}
 use Rattle.circle.specs.Walk.{worked}
 use Rattle.circle.proofs.Forms.{run-taken}
 use Rattle.circle.proofs.Theorems.{circle, circle-start-last, step-changes, round-changes}
@@ -64,10 +64,10 @@ module _ (t s : ℕ) (a : Allowed t s) where
       (accepted-schedule t s b e .1, ap (λ (l : List ℕ). getD l 0 0) said)
 
   -- a run that was taken is not too long
-  run-short : (b : List ℕ) (k : ℕ) → judge (runRows t s b k) ≡ Verdict.Accepted → k ≤ longest
+  run-short : (b : List ℕ) (k : ℕ) → judge (runRows t s b k) ≡ Verdict.Accepted → k ≤ mostSteps
   run-short b k e =
-      let row = (ltb longest k ⇒ RunTooLong) ∷ [] in
-      ltb-false longest k (accepted-none row (judge-back (checkRows t s b) row e) _ (List·Memᴰ·head refl))
+      let row = (ltb mostSteps k ⇒ RunTooLong) ∷ [] in
+      ltb-false mostSteps k (accepted-none row (judge-back (checkRows t s b) row e) _ (List·Memᴰ·head refl))
 
   demand-2 : Demand2 t s
   demand-2 =

@@ -19,14 +19,14 @@ use Prim.Native.Nat.{ℕ, _+_, _-_, _*_, _%_, _≤_, _<_}
 use lib.ListN.{length, getD}
 use Rattle.refusal.specs.declared.Refusal.{Refusal}
 use Rattle.refusal.specs.declared.Verdict.{Verdict}
-use Rattle.refusal.specs.Refusal.{numberOf}
+use Rattle.refusal.specs.Refusal.{refusalNumber}
 use Rattle.triangle.specs.Count.{N, largest, mostBeats}
 use Rattle.counts.specs.Counts.{Allowed}
 use Rattle.schedule.specs.Schedule.{Schedule, Lists}
 use Rattle.circle.specs.Step as rule
 use Rattle.circle.specs.Walk.{steps, worked, OneWay}
 use Rattle.circle.specs.Walk as walk
-use Rattle.circle.specs.Answers.{longest}
+use Rattle.circle.specs.Answers.{mostSteps}
 use Rattle.number.specs.Number.{Fewest}
 use Rattle.record.specs.Bytes.{valueOf, bytesFor}
 use Rattle.record.specs.Record.{numbered, beaten, recordOf, long, kindIn, ups, downs, body, cut}
@@ -56,7 +56,7 @@ pub data Wrong : Call → Type 0 where
 -- demand 1: a call takes whatever it is given, and has one answer; what is wrong is refused by a number, and a refused
 -- call leaves all that was lent to it as it was
 pub record Demand1 : Type 0 where
-  pub by-number : (why : Refusal) → (1 ≤ numberOf why) × (numberOf why ≤ 13)
+  pub by-number : (why : Refusal) → (1 ≤ refusalNumber why) × (refusalNumber why ≤ 13)
   pub refused : (c : Call) (m : List ℕ) (x : List (List ℕ)) → Wrong c → Gives c Verdict.Accepted m x → ⊥
   pub unchanged : (c : Call) (why : Refusal) (m : List ℕ) (x : List (List ℕ)) → Gives c (Verdict.Refused why) m x
       → x ≡ lent c
@@ -100,7 +100,7 @@ pub record Demand3All (t s : ℕ) : Type 0 where
   pub how-many : (l : List (List ℕ)) → Lists (Schedule t s) l → length l ≡ N t s
   pub counted : Gives (count t s) Verdict.Accepted (N t s ∷ []) []
   pub all-listed : (l : List (List ℕ)) × Lists (Schedule t s) l
-  pub run-given : (b : List ℕ) (k : ℕ) → Schedule t s b → k ≤ longest
+  pub run-given : (b : List ℕ) (k : ℕ) → Schedule t s b → k ≤ mostSteps
       → Gives (run t s b k) Verdict.Accepted (worked k b ∷ []) (steps k b ∷ [])
 
 -- all of it: t from 0 to 32 and s from 0 to t, but t from 2 and s from 1 for the round

@@ -22,7 +22,7 @@ use Rattle.counts.specs.Counts.{Allowed}
 use Rattle.counts.proofs.Sizes.{allowed-counts}
 use Rattle.schedule.specs.Check.{checked}
 use Rattle.schedule.proofs.Theorems.{accepted-schedule, schedule-accepted}
-use Rattle.circle.specs.Answers.{longest, runLeft}
+use Rattle.circle.specs.Answers.{mostSteps, runLeft}
 use Rattle.circle.specs.Walk.{steps}
 use Rattle.circle.proofs.Forms.{run-taken}
 use Rattle.number.specs.Number.{numberOf, formOf}
@@ -58,7 +58,7 @@ module _ (t s : ℕ) where
       ∙ ap (formOf t s) (said .1)
       ∙ number-form (right .1)
 
-  pub walked-asked : (m k : ℕ) (out : List ℕ) → formVerdict t s m out ≡ Verdict.Accepted → k ≤ longest
+  pub walked-asked : (m k : ℕ) (out : List ℕ) → formVerdict t s m out ≡ Verdict.Accepted → k ≤ mostSteps
       → runLeft t s (formLeft t s m out) k ≡ formLeft t s ((m + k) % N t s) out
   walked-asked m k out e h =
       let asked = form-allowed t s m out e in

@@ -3,7 +3,7 @@ use mathlib.Core.List.{[], _∷_}
 use mathlib.Core.Path.{_≡_, refl}
 use Rattle.refusal.specs.declared.Refusal.the-variants.{NoSuchNumber}
 use Rattle.refusal.specs.declared.Verdict.{Verdict}
-use Rattle.refusal.specs.Order.{judge}
+use Rattle.refusal.specs.Rows.{judge}
 use Rattle.triangle.specs.Count.{N}
 use Rattle.form.specs.Answers.{numberRows, onSheet}
 use Rattle.form.specs.Place.{placeOf, floorOf}

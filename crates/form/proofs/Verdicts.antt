@@ -20,9 +20,9 @@ use Rattle.form.specs.Answers.{numberRows, formRows, sheetRows, onSheet}
 use Rattle.refusal.specs.declared.Refusal.{Refusal}
 use Rattle.refusal.specs.declared.Refusal.the-variants.{WrongLength, NoSuchNumber, NoRoom}
 use Rattle.refusal.specs.declared.Verdict.{Verdict}
-use Rattle.refusal.specs.Order.{Row, _⇒_, judge}
+use Rattle.refusal.specs.Rows.{Row, _⇒_, judge}
 use Rattle.refusal.proofs.Theorems.{accepted-none}
-use Rattle.refusal.proofs.Order.{judge-refused, judge-accepted, judge-front, judge-back}
+use Rattle.refusal.proofs.Rows.{judge-refused, judge-accepted, judge-front, judge-back}
 use Rattle.triangle.specs.Count.{N, largest}
 use Rattle.counts.specs.Counts.{countRows}
 use Rattle.counts.proofs.Sizes.{counts-allowed}

@@ -7,7 +7,7 @@ ghost use mathlib.Core.Path.{_≡_};
 ghost use Prim.Native.Nat.{_+_, _-_, _≤_, _<_};
 ghost use lib.ListN.{length, drop};
 ghost use Rattle.form.specs.Answers.{numberRows, formVerdict, formLeft, sheetVerdict, sheetLeft};
-ghost use Rattle.refusal.specs.Order.{judge};
+ghost use Rattle.refusal.specs.Rows.{judge};
 ghost use Rattle.triangle.specs.Count.{N, largest};
 ghost use Rattle.lookup.specs.Lent.{Counts};
 ghost use Rattle.circle.specs.Step.{top};
@@ -82,7 +82,7 @@ fn write(rows: &[[u64; SIDE]], t: u64, s: u64, number: u64, out: &mut [u8])
 }
 
 // Whether the counts have a form of that number. Refuses 1, 2, then 7.
-fn numbered(rows: &[[u64; SIDE]], t: u64, s: u64, number: u64) -> Verdict
+fn judge_number(rows: &[[u64; SIDE]], t: u64, s: u64, number: u64) -> Verdict
     requires { ⌜ Counts (now rows) ⌝ }
     ensures { λ r. ⌜ r ≡ judge (numberRows t s number) ⌝ }
 {
@@ -115,7 +115,7 @@ pub fn form_by(rows: &[[u64; SIDE]], t: u64, s: u64, number: u64, out: &mut [u8]
     ensures { λ r. ⌜ r ≡ formVerdict t s number (now (out .entry)) ⌝ }
     ensures { λ _. ⌜ now (out .exit) ≡ formLeft t s number (now (out .entry)) ⌝ }
 {
-    let verdict = numbered(rows, t, s, number);
+    let verdict = judge_number(rows, t, s, number);
     match verdict {
         Verdict::Refused(why) => Verdict::Refused(why),
         Verdict::Accepted => {
@@ -136,7 +136,7 @@ pub fn form_on_sheet(t: u64, s: u64, number: u64, sheet: &mut [u8], column: u64)
     ensures { λ _. ⌜ now (sheet .exit) ≡ sheetLeft t s number (now (sheet .entry)) column ⌝ }
 {
     let none = lookup::NONE;
-    let verdict = numbered(&none, t, s, number);
+    let verdict = judge_number(&none, t, s, number);
     match verdict {
         Verdict::Refused(why) => Verdict::Refused(why),
         Verdict::Accepted => {

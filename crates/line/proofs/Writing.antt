@@ -15,7 +15,7 @@ use native.Mathlib.Omega.{arith}
 use lib.ListN.{length, take, drop, set, getD, List·getD-map, length-map}
 use lib.Seq.{take-all}
 use lib.Seq.{paste, paste-suc}
-use Rattle.refusal.specs.Refusal.{numberOf, placeOf}
+use Rattle.refusal.specs.Refusal.{refusalNumber, refusalPlace}
 use Rattle.refusal.specs.declared.Refusal.{Refusal}
 use Rattle.text.proofs.Writing.{written-then}
 use Rattle.text.specs.Decimal.{decimal}
@@ -71,7 +71,7 @@ written-accepted t s n b {r = r} {v = v} {out = out} first second third fourth f
 abbrev pub word : List ℕ
 word = 114 ∷ 101 ∷ 102 ∷ 117 ∷ 115 ∷ 101 ∷ 100 ∷ 32 ∷ []
 
-pub written-refused : (why : Refusal) {number place : ℕ} → number ≡ numberOf why → place ≡ placeOf why → {h i j r : ℕ} {v w x y out : List ℕ}
+pub written-refused : (why : Refusal) {number place : ℕ} → number ≡ refusalNumber why → place ≡ refusalPlace why → {h i j r : ℕ} {v w x y out : List ℕ}
     → Written 0 word v w h → Written h (decimal number ++ 32 ∷ []) w x i → Written i (decimal place) x y j
     → Written j (10 ∷ []) y out r → Written 0 (refusedLine why) v out r
 written-refused why {number} {place} en ep {r = r} {v = v} {out = out} first second third fourth =

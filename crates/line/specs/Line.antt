@@ -7,7 +7,7 @@ use mathlib.Core.List.{List, [], _∷_, _++_, map}
 use Prim.Native.Nat.{ℕ, _+_, _≤_, _<_}
 use lib.ListN.{length, getD}
 use Rattle.refusal.specs.declared.Refusal.{Refusal}
-use Rattle.refusal.specs.Refusal.{numberOf, placeOf}
+use Rattle.refusal.specs.Refusal.{refusalNumber, refusalPlace}
 use Rattle.text.specs.Decimal.{decimal}
 
 abbrev pub Beats : List ℕ → Type 0
@@ -23,4 +23,4 @@ acceptedLine t s n b = decimal t ++ 32 ∷ decimal s ++ 32 ∷ decimal n ++ 32 �
 -- 114, 101, 102, 117, 115, 101, 100 and 32 are the word refused and a space
 abbrev pub refusedLine : Refusal → List ℕ
 refusedLine why =
-    114 ∷ 101 ∷ 102 ∷ 117 ∷ 115 ∷ 101 ∷ 100 ∷ 32 ∷ decimal (numberOf why) ++ 32 ∷ decimal (placeOf why) ++ 10 ∷ []
+    114 ∷ 101 ∷ 102 ∷ 117 ∷ 115 ∷ 101 ∷ 100 ∷ 32 ∷ decimal (refusalNumber why) ++ 32 ∷ decimal (refusalPlace why) ++ 10 ∷ []

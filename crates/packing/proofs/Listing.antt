@@ -13,8 +13,8 @@ use lib.ListN.{length, take, drop}
 use lib.Seq.{take-at}
 use Rattle.refusal.specs.declared.Refusal.{Refusal}
 use Rattle.refusal.specs.declared.Verdict.{Verdict}
-use Rattle.refusal.specs.Refusal.{numberOf}
-use Rattle.refusal.specs.Order.{judge}
+use Rattle.refusal.specs.Refusal.{refusalNumber}
+use Rattle.refusal.specs.Rows.{judge}
 use Rattle.triangle.specs.Count.{mostBeats}
 use Rattle.counts.specs.Counts.{Allowed}
 use Rattle.schedule.specs.Schedule.{Schedule}
@@ -113,7 +113,7 @@ module _ (src out : List ℕ) where
       (subst (λ (l : List ℕ). Written 0 l out after bytes) (rw (f .is-t, f .is-s, f .is-number, e) (ap (text src) (sym (f .taken)))) w)
 
   pub list-refused : (why : Refusal) → verdictOn src ≡ Verdict.Refused why → {consumed number bytes : ℕ} {after : List ℕ}
-      → consumed ≡ eaten why (long src) → number ≡ numberOf why → Written 0 (refusedLine why) out after bytes
+      → consumed ≡ eaten why (long src) → number ≡ refusalNumber why → Written 0 (refusedLine why) out after bytes
       → Prints lineOf src out (record { consumed = consumed; bytes = bytes; last = eqb number 9 }) after
   list-refused why e {bytes = bytes} {after} ec en w =
       as-printed (ec ∙ ap (passing src) (sym e)) (ap (λ (j : ℕ). eqb j 9) en ∙ ap ending (sym e))

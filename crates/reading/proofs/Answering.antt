@@ -14,7 +14,7 @@ use Rattle.form.specs.Answers.{numberRows}
 use Rattle.refusal.specs.Answer.{left}
 use Rattle.refusal.specs.declared.Refusal.the-variants.{WrongSize, UnknownKind, NoRoom, CutShort}
 use Rattle.refusal.specs.declared.Verdict.{Verdict}
-use Rattle.refusal.specs.Order.{Row, _⇒_, judge}
+use Rattle.refusal.specs.Rows.{Row, _⇒_, judge}
 use Rattle.triangle.specs.Count.{mostBeats}
 use Rattle.counts.specs.Counts.{countRows}
 use Rattle.number.specs.Number.{numberOf, formOf}

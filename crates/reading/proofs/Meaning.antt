@@ -11,8 +11,8 @@ use native.Mathlib.Decide.{decLt, ℕ-discrete}
 use native.Mathlib.Omega.{arith}
 use borrow.Author.Tests.{eq-eqb, ne-eqb}
 use Rattle.refusal.specs.declared.Verdict.{Verdict}
-use Rattle.refusal.specs.Order.{judge}
-use Rattle.refusal.proofs.Order.{judge-front, judge-back, both}
+use Rattle.refusal.specs.Rows.{judge}
+use Rattle.refusal.proofs.Rows.{judge-front, judge-back, both}
 use Rattle.triangle.specs.Count.{N}
 use Rattle.counts.specs.Counts.{Allowed, countRows}
 use Rattle.counts.proofs.Sizes.{counts-allowed}

@@ -15,8 +15,8 @@ use borrow.Author.Tests.{ltb-false}
 use lib.ListN.{length, getD, take, drop, List·getD-eq-default}
 use lib.Seq.{getD-drop}
 use Rattle.refusal.specs.declared.Verdict.{Verdict}
-use Rattle.refusal.specs.Order.{judge}
-use Rattle.refusal.proofs.Order.{judge-front, judge-back}
+use Rattle.refusal.specs.Rows.{judge}
+use Rattle.refusal.proofs.Rows.{judge-front, judge-back}
 use Rattle.refusal.proofs.Theorems.{accepted-none}
 use Rattle.triangle.specs.Count.{mostBeats}
 use Rattle.record.specs.Bytes.{lowFirst, valueOf, spell, bytesFor, packed, unused}

@@ -16,8 +16,8 @@ use lib.ListN.{length, getD, take, drop, length-append, length-drop, List·getD-
 use lib.Seq.{take-at, getD-drop, getD-take, length-take-le}
 use Rattle.form.specs.Answers.{numberRows}
 use Rattle.refusal.specs.declared.Verdict.{Verdict}
-use Rattle.refusal.specs.Order.{judge}
-use Rattle.refusal.proofs.Order.{judge-front, judge-accepted}
+use Rattle.refusal.specs.Rows.{judge}
+use Rattle.refusal.proofs.Rows.{judge-front, judge-accepted}
 use Rattle.refusal.proofs.Theorems.{accepted-none}
 use Rattle.triangle.specs.Count.{mostBeats}
 use Rattle.triangle.proofs.Theorems.{fits-64-bits}

@@ -20,8 +20,8 @@ use Rattle.form.specs.Answers.{numberRows, formRows}
 use Rattle.refusal.specs.declared.Refusal.{Refusal}
 use Rattle.refusal.specs.declared.Refusal.the-variants.{WrongSize, WrongLength, BadBeat}
 use Rattle.refusal.specs.declared.Verdict.{Verdict}
-use Rattle.refusal.specs.Order.{Row, _⇒_, judge}
-use Rattle.refusal.proofs.Order.{judge-accepted}
+use Rattle.refusal.specs.Rows.{Row, _⇒_, judge}
+use Rattle.refusal.proofs.Rows.{judge-accepted}
 use Rattle.counts.specs.Counts.{Allowed, countRows}
 use Rattle.counts.proofs.Sizes.{allowed-counts}
 use Rattle.schedule.specs.Check.{badBeat, handRows, playRows, beatRows, checkRows, checked}

@@ -14,7 +14,7 @@ use Prim.Native.Nat.{ℕ, _+_, _≤_}
 use lib.ListN.{length, drop}
 use Rattle.refusal.specs.Answer.{left}
 use Rattle.refusal.specs.declared.Verdict.{Verdict}
-use Rattle.refusal.specs.Order.{judge}
+use Rattle.refusal.specs.Rows.{judge}
 use Rattle.triangle.specs.Count.{mostBeats}
 use Rattle.record.specs.Record.{Kind, long, kindIn, ups, downs, body, cut, meant, meantNumber, readRows, eaten}
 use Rattle.order.specs.declared.Reading.{Reading}

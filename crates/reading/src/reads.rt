@@ -6,7 +6,7 @@ ghost use Prim.Native.Nat.{_+_, _≤_};
 ghost use lib.ListN.{length, take, drop};
 ghost use Rattle.form.specs.Answers.{numberRows};
 ghost use Rattle.refusal.specs.Answer.{left};
-ghost use Rattle.refusal.specs.Order.{judge};
+ghost use Rattle.refusal.specs.Rows.{judge};
 ghost use Rattle.triangle.specs.Count.{mostBeats};
 ghost use Rattle.lookup.specs.Lent.{Counts};
 ghost use Rattle.counts.specs.Counts.{Allowed, countRows};

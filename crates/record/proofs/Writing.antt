@@ -17,8 +17,8 @@ use lib.Seq.{drop-drop}
 use Rattle.refusal.specs.declared.Refusal.{Refusal}
 use Rattle.refusal.specs.declared.Refusal.the-variants.{UnknownKind, NoRoom}
 use Rattle.refusal.specs.declared.Verdict.{Verdict}
-use Rattle.refusal.specs.Order.{Row, _⇒_, judge}
-use Rattle.refusal.proofs.Order.{judge-refused, judge-accepted}
+use Rattle.refusal.specs.Rows.{Row, _⇒_, judge}
+use Rattle.refusal.proofs.Rows.{judge-refused, judge-accepted}
 use Rattle.schedule.specs.Check.{checkRows, checked}
 use Rattle.number.specs.Number.{numberOf}
 use Rattle.record.specs.Bytes.{lowFirst, spell, bytesFor, packed}

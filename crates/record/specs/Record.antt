@@ -30,7 +30,7 @@ use Rattle.refusal.specs.declared.Refusal.the-variants.{NoSuchNumber, CutShort,
 use Rattle.refusal.specs.declared.Verdict.{Verdict}
 use Rattle.refusal.specs.Answer.{answer, left}
 use Rattle.refusal.specs.Refusal as refusal
-use Rattle.refusal.specs.Order.{Row, _⇒_, judge}
+use Rattle.refusal.specs.Rows.{Row, _⇒_, judge}
 use Rattle.triangle.specs.Count.{N, mostBeats}
 use Rattle.counts.specs.Counts.{countRows}
 use Rattle.schedule.specs.Check.{handRows, checkRows}

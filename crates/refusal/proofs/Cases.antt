@@ -7,22 +7,22 @@ use native.Mathlib.Omega.{arith}
 use Rattle.refusal.specs.declared.Answer.{Answer}
 use Rattle.refusal.specs.declared.Refusal.the-variants.{TooManyTasks, MoreDownThanUp, WrongLength, BadBeat, EmptyHand, RunTooLong}
 use Rattle.refusal.specs.declared.Verdict.{Verdict}
-use Rattle.refusal.specs.Refusal.{numberOf, placeOf}
+use Rattle.refusal.specs.Refusal.{refusalNumber, refusalPlace}
 use Rattle.refusal.specs.Answer.{refusal, place, verdict, value, answer, left}
-use Rattle.refusal.specs.Order.{Row, _⇒_, judge, test}
+use Rattle.refusal.specs.Rows.{Row, _⇒_, judge, test}
 use Rattle.refusal.proofs.Theorems.{Given, refused-given, given-refused}
 
 -- the first and the last row of the table; a place that is a beat, and one that is not
-number-1 : numberOf TooManyTasks ≡ 1
+number-1 : refusalNumber TooManyTasks ≡ 1
 number-1 = refl
 
-number-13 : numberOf RunTooLong ≡ 13
+number-13 : refusalNumber RunTooLong ≡ 13
 number-13 = refl
 
-place-3 : placeOf (BadBeat 3) ≡ 3
+place-3 : refusalPlace (BadBeat 3) ≡ 3
 place-3 = refl
 
-no-place : placeOf WrongLength ≡ 0
+no-place : refusalPlace WrongLength ≡ 0
 no-place = refl
 
 -- a verdict as numbers

@@ -1,4 +1,4 @@
-pub mod Order
+pub mod Rows
 pub mod Left
 pub mod Theorems
 pub mod Cases

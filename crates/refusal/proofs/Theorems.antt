@@ -20,9 +20,9 @@ use Rattle.refusal.specs.declared.Answer.{Answer}
 use Rattle.refusal.specs.declared.Refusal.{Refusal}
 use Rattle.refusal.specs.declared.Refusal.the-variants.{TooManyTasks, MoreDownThanUp, WrongLength, BadBeat, EmptyHand, WrongTakeUps, NoSuchNumber, NoSuchTables, CutShort, UnknownKind, WrongSize, NoRoom, RunTooLong}
 use Rattle.refusal.specs.declared.Verdict.{Verdict}
-use Rattle.refusal.specs.Refusal.{numberOf, placeOf}
+use Rattle.refusal.specs.Refusal.{refusalNumber, refusalPlace}
 use Rattle.refusal.specs.Answer.{refusal, verdict, answer}
-use Rattle.refusal.specs.Order.{Row, _⇒_, judge, test}
+use Rattle.refusal.specs.Rows.{Row, _⇒_, judge, test}
 
 pub record Given (l : List Row) (why : Refusal) : Type 0 where
   pub front : List Row
@@ -70,7 +70,7 @@ named n at =
     n
     TooManyTasks
 
-named-back : (why : Refusal) → (named (numberOf why) (placeOf why) ≡ why) × (1 ≤ numberOf why) × (numberOf why ≤ 13)
+named-back : (why : Refusal) → (named (refusalNumber why) (refusalPlace why) ≡ why) × (1 ≤ refusalNumber why) × (refusalNumber why ≤ 13)
 unfolding named
 named-back TooManyTasks = (refl, omega arith, omega arith)
 named-back MoreDownThanUp = (refl, omega arith, omega arith)
@@ -86,10 +86,10 @@ named-back WrongSize = (refl, omega arith, omega arith)
 named-back NoRoom = (refl, omega arith, omega arith)
 named-back RunTooLong = (refl, omega arith, omega arith)
 
-pub refused-number : (why : Refusal) → (1 ≤ numberOf why) × (numberOf why ≤ 13)
+pub refused-number : (why : Refusal) → (1 ≤ refusalNumber why) × (refusalNumber why ≤ 13)
 refused-number why = (named-back why .1, named-back why .2)
 
-pub same-refusal : (p q : Refusal) → numberOf p ≡ numberOf q → placeOf p ≡ placeOf q → p ≡ q
+pub same-refusal : (p q : Refusal) → refusalNumber p ≡ refusalNumber q → refusalPlace p ≡ refusalPlace q → p ≡ q
 same-refusal p q n a = sym (named-back p .0) ∙ ap₂ named n a ∙ named-back q .0
 
 pub accepted-zero : (v : Verdict) → refusal v ≡ 0 → v ≡ Verdict.Accepted

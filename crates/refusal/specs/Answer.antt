@@ -9,15 +9,15 @@ use mathlib.Core.List.{List}
 use Prim.Native.Nat.{ℕ}
 use Rattle.refusal.specs.declared.Answer.{Answer}
 use Rattle.refusal.specs.declared.Verdict.{Verdict}
-use Rattle.refusal.specs.Refusal.{numberOf, placeOf}
+use Rattle.refusal.specs.Refusal.{refusalNumber, refusalPlace}
 
 abbrev pub refusal : Verdict → ℕ
 refusal Verdict.Accepted = 0
-refusal (Verdict.Refused why) = numberOf why
+refusal (Verdict.Refused why) = refusalNumber why
 
 abbrev pub place : Verdict → ℕ
 place Verdict.Accepted = 0
-place (Verdict.Refused why) = placeOf why
+place (Verdict.Refused why) = refusalPlace why
 
 abbrev pub verdict : Answer → Verdict
 verdict (Answer.Value n) = Verdict.Accepted

@@ -1,3 +1,3 @@
 pub mod Refusal
 pub mod Answer
-pub mod Order
+pub mod Rows

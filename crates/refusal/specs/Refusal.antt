@@ -1,7 +1,7 @@
--- The table of refusals, the manual, "Refusal numbers" [R1] [F5]. Definitions only.
---     numberOf     the number of a refusal's row [R1] [F5]
---     placeOf      the place that goes with it: the beat that the case names, and 0 where the table's place is 0 [R1]
---                  [F5]
+-- The table of refusals, the manual, "Refusal numbers". Definitions only.
+--     refusalNumber     the number of a refusal's row [R1] [F5]
+--     refusalPlace      the place that goes with it: the beat that the case names, and 0 where the table's place is 0
+--                       [R1] [F5]
 use Prim.Native.Nat.{ℕ}
 use Rattle.refusal.specs.declared.Refusal.{Refusal}
 use Rattle.refusal.specs.declared.Refusal.the-variants.{
@@ -20,32 +20,32 @@ use Rattle.refusal.specs.declared.Refusal.the-variants.{
   RunTooLong,
 }
 
-abbrev pub numberOf : Refusal → ℕ
-numberOf TooManyTasks = 1
-numberOf MoreDownThanUp = 2
-numberOf WrongLength = 3
-numberOf (BadBeat at) = 4
-numberOf (EmptyHand at) = 5
-numberOf WrongTakeUps = 6
-numberOf NoSuchNumber = 7
-numberOf NoSuchTables = 8
-numberOf CutShort = 9
-numberOf UnknownKind = 10
-numberOf WrongSize = 11
-numberOf NoRoom = 12
-numberOf RunTooLong = 13
+abbrev pub refusalNumber : Refusal → ℕ
+refusalNumber TooManyTasks = 1
+refusalNumber MoreDownThanUp = 2
+refusalNumber WrongLength = 3
+refusalNumber (BadBeat at) = 4
+refusalNumber (EmptyHand at) = 5
+refusalNumber WrongTakeUps = 6
+refusalNumber NoSuchNumber = 7
+refusalNumber NoSuchTables = 8
+refusalNumber CutShort = 9
+refusalNumber UnknownKind = 10
+refusalNumber WrongSize = 11
+refusalNumber NoRoom = 12
+refusalNumber RunTooLong = 13
 
-abbrev pub placeOf : Refusal → ℕ
-placeOf TooManyTasks = 0
-placeOf MoreDownThanUp = 0
-placeOf WrongLength = 0
-placeOf (BadBeat at) = at
-placeOf (EmptyHand at) = at
-placeOf WrongTakeUps = 0
-placeOf NoSuchNumber = 0
-placeOf NoSuchTables = 0
-placeOf CutShort = 0
-placeOf UnknownKind = 0
-placeOf WrongSize = 0
-placeOf NoRoom = 0
-placeOf RunTooLong = 0
+abbrev pub refusalPlace : Refusal → ℕ
+refusalPlace TooManyTasks = 0
+refusalPlace MoreDownThanUp = 0
+refusalPlace WrongLength = 0
+refusalPlace (BadBeat at) = at
+refusalPlace (EmptyHand at) = at
+refusalPlace WrongTakeUps = 0
+refusalPlace NoSuchNumber = 0
+refusalPlace NoSuchTables = 0
+refusalPlace CutShort = 0
+refusalPlace UnknownKind = 0
+refusalPlace WrongSize = 0
+refusalPlace NoRoom = 0
+refusalPlace RunTooLong = 0

@@ -3,7 +3,7 @@
 // of the library that can refuse answers one of the three, or to a C host its number, and passes a refusal
 // on as it got it. The contracts cite specs/Refusal and specs/Answer. [P1] [P13]
 ghost use mathlib.Core.Path.{_≡_};
-ghost use Rattle.refusal.specs.Refusal.{numberOf, placeOf};
+ghost use Rattle.refusal.specs.Refusal.{refusalNumber, refusalPlace};
 ghost use Rattle.refusal.specs.Answer as answer;
 
 // Why a call was refused. A case that holds a number names the beat at fault, counted from 0. [R1]
@@ -39,7 +39,7 @@ pub enum Refusal {
 impl Refusal {
     // The number of the row.
     pub fn number(self) -> u64
-        ensures { λ r. ⌜ r ≡ numberOf self ⌝ }
+        ensures { λ r. ⌜ r ≡ refusalNumber self ⌝ }
     {
         match self {
             Refusal::TooManyTasks => 1,
@@ -60,7 +60,7 @@ impl Refusal {
 
     // The beat at fault, and 0 for a refusal that names none.
     pub fn place(self) -> u64
-        ensures { λ r. ⌜ r ≡ placeOf self ⌝ }
+        ensures { λ r. ⌜ r ≡ refusalPlace self ⌝ }
     {
         match self {
             Refusal::TooManyTasks => 0,

@@ -12,7 +12,7 @@ use borrow.Author.Tests.{lt-ltb, le-ltb, eq-eqb, ne-eqb, ltb-false}
 use lib.ListN.{length, getD}
 use Rattle.refusal.specs.declared.Refusal.the-variants.{WrongLength, BadBeat, EmptyHand, WrongTakeUps}
 use Rattle.refusal.specs.declared.Verdict.{Verdict}
-use Rattle.refusal.specs.Order.{judge}
+use Rattle.refusal.specs.Rows.{judge}
 use Rattle.schedule.specs.Schedule.{ones, zeros}
 use Rattle.schedule.specs.Check.{badBeat, emptyHand, isBad, beatRows}
 use Rattle.bounded.proofs.First.{first-before}

@@ -11,8 +11,8 @@ use lib.ListN.{length}
 use Rattle.refusal.specs.declared.Refusal.{Refusal}
 use Rattle.refusal.specs.declared.Refusal.the-variants.{BadBeat, EmptyHand}
 use Rattle.refusal.specs.declared.Verdict.{Verdict}
-use Rattle.refusal.specs.Order.{judge}
-use Rattle.refusal.proofs.Order.{judge-refused, judge-accepted}
+use Rattle.refusal.specs.Rows.{judge}
+use Rattle.refusal.proofs.Rows.{judge-refused, judge-accepted}
 use Rattle.triangle.specs.Count.{largest}
 use Rattle.counts.specs.Counts.{Allowed, countRows}
 use Rattle.counts.proofs.Sizes.{too-many, more-down, allowed-counts}

@@ -16,7 +16,7 @@ use lib.ListN.{length, getD, take}
 use Rattle.bounded.specs.Bounded.{first}
 use Rattle.refusal.specs.declared.Refusal.the-variants.{WrongLength, BadBeat, EmptyHand, WrongTakeUps}
 use Rattle.refusal.specs.declared.Verdict.{Verdict}
-use Rattle.refusal.specs.Order.{Row, _⇒_, judge}
+use Rattle.refusal.specs.Rows.{Row, _⇒_, judge}
 use Rattle.counts.specs.Counts.{countRows}
 use Rattle.schedule.specs.Schedule.{ones, zeros}
 

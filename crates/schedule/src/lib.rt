@@ -5,7 +5,7 @@ ghost use mathlib.Core.Path.{_≡_};
 ghost use Prim.Native.Nat.{ℕ, _+_, _≤_, _<_};
 ghost use lib.ListN.{length, take, getD};
 ghost use Rattle.refusal.specs.declared.Verdict.{Verdict};
-ghost use Rattle.refusal.specs.Order.{judge};
+ghost use Rattle.refusal.specs.Rows.{judge};
 ghost use Rattle.counts.specs.Counts.{countRows};
 ghost use Rattle.schedule.specs.Schedule.{ones, zeros};
 ghost use Rattle.schedule.specs.Skip.{skipped};

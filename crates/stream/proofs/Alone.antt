@@ -19,8 +19,8 @@ use lib.Seq.{take-append-le, drop-append-le}
 use Rattle.form.specs.Answers.{numberRows}
 use Rattle.refusal.specs.declared.Refusal.{Refusal}
 use Rattle.refusal.specs.declared.Verdict.{Verdict}
-use Rattle.refusal.specs.Refusal.{numberOf}
-use Rattle.refusal.specs.Order.{judge}
+use Rattle.refusal.specs.Refusal.{refusalNumber}
+use Rattle.refusal.specs.Rows.{judge}
 use Rattle.triangle.specs.Count.{mostBeats}
 use Rattle.counts.specs.Counts.{countRows}
 use Rattle.record.specs.Bytes.{valueOf}
@@ -35,7 +35,7 @@ use Rattle.stream.proofs.Fronts.{settled-whole}
 
 -- a refusal after which the list goes on after the record
 abbrev Goes : Refusal → Type 0
-Goes why = ((l : ℕ) → eaten why l ≡ 2 + l) × (eqb (numberOf why) 9 ≡ false)
+Goes why = ((l : ℕ) → eaten why l ≡ 2 + l) × (eqb (refusalNumber why) 9 ≡ false)
 
 kind-goes : (k : Kind) (src : List ℕ) → isUnknown k ≡ false → {why : Refusal} → judge (kindRows k src) ≡ Verdict.Refused why → Goes why
 kind-goes numbered src u e = given Goes (kindRows numbered src) ((λ l. refl, refl), ((λ l. refl, refl), ((λ l. refl, refl), ((λ l. refl, refl), tt)))) e

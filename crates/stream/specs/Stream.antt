@@ -18,8 +18,8 @@ use Prim.Native.Nat.{ℕ, zero, suc, _+_}
 use lib.Dec.{eqb, leb, ltb}
 use lib.ListN.{length, drop}
 use Rattle.refusal.specs.declared.Verdict.{Verdict}
-use Rattle.refusal.specs.Refusal.{numberOf}
-use Rattle.refusal.specs.Order.{judge}
+use Rattle.refusal.specs.Refusal.{refusalNumber}
+use Rattle.refusal.specs.Rows.{judge}
 use Rattle.triangle.specs.Count.{mostBeats}
 use Rattle.record.specs.Record.{long, longest, readRows, eaten}
 use Rattle.stream.specs.declared.Front.{Front}
@@ -36,7 +36,7 @@ passed src = passing src (verdictOn src)
 
 abbrev pub ending : Verdict → Bool
 ending Verdict.Accepted = false
-ending (Verdict.Refused why) = eqb (numberOf why) 9
+ending (Verdict.Refused why) = eqb (refusalNumber why) 9
 
 abbrev pub ends : List ℕ → Bool
 ends src = ending (verdictOn src)

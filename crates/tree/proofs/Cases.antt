@@ -11,7 +11,7 @@ use Rattle.refusal.specs.declared.Refusal.{Refusal}
 use Rattle.refusal.specs.declared.Refusal.the-variants.{TooManyTasks, WrongLength, EmptyHand}
 use Rattle.refusal.specs.declared.Verdict.{Verdict}
 use Rattle.refusal.specs.Answer.{refusal}
-use Rattle.refusal.specs.Order.{judge}
+use Rattle.refusal.specs.Rows.{judge}
 use Rattle.refusal.proofs.Theorems.{refused-number}
 use Rattle.schedule.specs.Schedule.{ones, zeros}
 use Rattle.tree.specs.Tree.{Tree, leaf, node, size, word, root, lefts, rights, parents}

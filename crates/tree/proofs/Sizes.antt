@@ -16,8 +16,8 @@ use lib.ListN.{length}
 use Rattle.refusal.specs.declared.Refusal.{Refusal}
 use Rattle.refusal.specs.declared.Refusal.the-variants.{TooManyTasks, WrongLength}
 use Rattle.refusal.specs.declared.Verdict.{Verdict}
-use Rattle.refusal.specs.Order.{_⇒_, judge}
-use Rattle.refusal.proofs.Order.{judge-refused, judge-accepted}
+use Rattle.refusal.specs.Rows.{_⇒_, judge}
+use Rattle.refusal.proofs.Rows.{judge-refused, judge-accepted}
 use Rattle.refusal.proofs.Theorems.{accepted-none}
 use Rattle.triangle.specs.Count.{largest}
 use Rattle.counts.specs.Counts.{countRows}

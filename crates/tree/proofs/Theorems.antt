@@ -13,8 +13,8 @@ use Prim.Native.Nat.{ℕ, _+_, _≤_}
 use native.Mathlib.Omega.{arith}
 use lib.ListN.{length}
 use Rattle.refusal.specs.declared.Verdict.{Verdict}
-use Rattle.refusal.specs.Order.{judge}
-use Rattle.refusal.proofs.Order.{judge-front, both}
+use Rattle.refusal.specs.Rows.{judge}
+use Rattle.refusal.proofs.Rows.{judge-front, both}
 use Rattle.triangle.specs.Count.{largest}
 use Rattle.schedule.specs.Schedule.{ones, Schedule}
 use Rattle.schedule.specs.Check.{playRows}

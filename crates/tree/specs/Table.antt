@@ -16,7 +16,7 @@ use lib.ListN.{length}
 use Rattle.refusal.specs.declared.Refusal.{Refusal}
 use Rattle.refusal.specs.declared.Refusal.the-variants.{TooManyTasks, WrongLength}
 use Rattle.refusal.specs.declared.Verdict.{Verdict}
-use Rattle.refusal.specs.Order.{Row, _⇒_, judge}
+use Rattle.refusal.specs.Rows.{Row, _⇒_, judge}
 use Rattle.triangle.specs.Count.{largest}
 use Rattle.schedule.specs.Check.{playRows}
 use Rattle.tree.specs.Tree.{Tree, size, word, lefts, rights, parents}

@@ -3,7 +3,7 @@
 ghost use mathlib.Core.Path.{_≡_};
 ghost use Prim.Native.Nat.{_+_, _≤_, _<_};
 ghost use lib.ListN.{length, set};
-ghost use Rattle.refusal.specs.Order.{judge};
+ghost use Rattle.refusal.specs.Rows.{judge};
 ghost use Rattle.triangle.specs.Count.{largest};
 ghost use Rattle.schedule.specs.Schedule.{Schedule};
 ghost use Rattle.tree.specs.Table.{Has, fits, sizeRows, Treed};

@@ -1,4 +1,4 @@
-pub mod Reading
+pub mod Slots
 pub mod Tracing
 pub mod Rows
 pub mod Theorems

@@ -10,7 +10,7 @@ use mathlib.Core.Path.{_≡_, refl, sym, _∙_, ap}
 use Prim.Native.Nat.{ℕ, _+_}
 use lib.ListN.{length}
 use Rattle.refusal.specs.declared.Verdict.{Verdict}
-use Rattle.refusal.proofs.Order.{both}
+use Rattle.refusal.proofs.Rows.{both}
 use Rattle.tree.specs.Tree.{word}
 use Rattle.tree.specs.Table.{Has, Treed, filled}
 use Rattle.tree.proofs.Word.{front-unique}
@@ -18,7 +18,7 @@ use Rattle.tree.proofs.Forest.{length-lefts, length-rights, length-parents}
 use Rattle.tree.proofs.Sizes.{sizes-right, fitting-sizes}
 use Rattle.tree.proofs.Theorems.{has-closed, treed-one, Sized, tree-accepts, accepts-tree}
 use Rattle.tree_back.specs.Back.{Untreed, found, none, unfit}
-use Rattle.tree_back.proofs.Reading.{reads-one}
+use Rattle.tree_back.proofs.Slots.{reads-one}
 use Rattle.tree_back.proofs.Tracing.{has-read}
 
 pub one-schedule : {n : ℕ} {b c l r p : List ℕ} → Has n b l r p → Has n c l r p → b ≡ c

@@ -31,7 +31,7 @@ use Rattle.schedule.proofs.Tally.{ones-append}
 use Rattle.tree.proofs.Word.{ones-word}
 use Rattle.tree.proofs.Forest.{words}
 use Rattle.tree.proofs.Planted.{pop, push}
-use Rattle.tree_back.proofs.Reading.{Reads, none, tables-read, read-tables, entry, Rest, last, more, rest-pop, rest-last, rest-open, rest-close}
+use Rattle.tree_back.proofs.Slots.{Reads, none, tables-read, read-tables, entry, Rest, last, more, rest-pop, rest-last, rest-open, rest-close}
 
 root-number : (t : Tree) → root 1 t ≡ rootNumber (size t)
 unfolding root size

@@ -8,7 +8,7 @@ use Prim.Native.Nat.{ℕ}
 use Rattle.refusal.specs.declared.Refusal.{Refusal}
 use Rattle.refusal.specs.declared.Refusal.the-variants.{NoSuchTables}
 use Rattle.refusal.specs.declared.Verdict.{Verdict}
-use Rattle.refusal.specs.Order.{judge}
+use Rattle.refusal.specs.Rows.{judge}
 use Rattle.tree.specs.Table.{Has, lentRows}
 
 pub data Untreed (n : ℕ) (l r p b : List ℕ) : Verdict → List ℕ → Type 0 where

@@ -1,6 +1,6 @@
 -- The definitions of specs/ on small inputs: for each one value and another. Assumes nothing.
 use mathlib.Core.Path.{_≡_, refl}
-use Rattle.triangle.specs.Count.{N, C, counted, place}
+use Rattle.triangle.specs.Count.{N, C, counted, cell}
 use Rattle.triangle.specs.Table.{at}
 
 -- five schedules of 3, 2, and none that sets down more than it takes up
@@ -38,8 +38,8 @@ entry-572 : at 8 5 ≡ 572
 entry-572 = refl
 
 -- the count of (2,1) stands after those of (0,0), (1,0), (1,1) and (2,0); that of (0,0) is the first
-place-4 : place 2 1 ≡ 4
+place-4 : cell 2 1 ≡ 4
 place-4 = refl
 
-place-0 : place 0 0 ≡ 0
+place-0 : cell 0 0 ≡ 0
 place-0 = refl

@@ -5,7 +5,7 @@
 --     N t s       the number of schedules of t ones and s zeros, by its addition rule; 0 where s is above t [N4]
 --     C n k       how many ways there are to take k of n things, by Pascal's rule [N3]
 --     counted     N for the counts that are allowed, and 0 for more tasks than the largest number
---     place t s   where the count of t, s stands among the counts with s up to t, row after row
+--     cell t s    where the count of t, s stands among the counts with s up to t, row after row
 use mathlib.Core.Bool.{cond}
 use Prim.Native.Nat.{ℕ, zero, suc, _+_, _*_, _/_}
 use lib.Dec.{leb}
@@ -29,5 +29,5 @@ C (suc n) (suc k) = C n k + C n (suc k)
 unfoldable pub counted : ℕ → ℕ → ℕ
 counted t s = cond (leb t largest) (N t s) 0
 
-abbrev pub place : ℕ → ℕ → ℕ
-place t s = t * (t + 1) / 2 + s
+abbrev pub cell : ℕ → ℕ → ℕ
+cell t s = t * (t + 1) / 2 + s

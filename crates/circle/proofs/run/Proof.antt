@@ -6,7 +6,7 @@ use Prim.Native.Nat.{ℕ}
 use native.Mathlib.Omega.{arith}
 use borrow.Author.Needs.{needs}
 use Rattle.refusal.specs.declared.Verdict.{Verdict}
-use Rattle.refusal.specs.Order.{judge}
+use Rattle.refusal.specs.Rows.{judge}
 use Rattle.circle.specs.Walk.{steps, worked}
 use Rattle.circle.specs.Answers.{runRows}
 use Rattle.circle.proofs.Forms.{refused-so, accepted-so, accepted-form, run-allowed}

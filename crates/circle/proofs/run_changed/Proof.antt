@@ -10,12 +10,12 @@ use lib.Seq.{length-take-le}
 use Rattle.refusal.specs.declared.Answer.{Answer}
 use Rattle.refusal.specs.declared.Verdict.{Verdict}
 use Rattle.refusal.specs.Answer.{answer}
-use Rattle.refusal.specs.Order.{judge}
+use Rattle.refusal.specs.Rows.{judge}
 use Rattle.triangle.specs.Count.{mostBeats}
 use Rattle.schedule.specs.Check.{checked}
 use Rattle.schedule.proofs.Theorems.{accepted-schedule}
 use Rattle.circle.specs.Walk.{worked}
-use Rattle.circle.specs.Answers.{longest, runRows}
+use Rattle.circle.specs.Answers.{mostSteps, runRows}
 use Rattle.circle.proofs.Forms.{accepted-form, run-allowed}
 use Rattle.circle.proofs.run_changed.Statement.{statement}
 use Rattle.circle.proofs.run_changed.Tie as tie
@@ -46,7 +46,7 @@ module _ (c : tie.After-enum-told) where
   accepted : judge (runRows t s beats (start .args .k)) ≡ Verdict.Accepted
   accepted = sym (c .before .before .may-run .ensures) ∙ c .enum-told .given .1
 
-  allowed : (checked t s beats ≡ Verdict.Accepted) × (start .args .k ≤ longest)
+  allowed : (checked t s beats ≡ Verdict.Accepted) × (start .args .k ≤ mostSteps)
   allowed = run-allowed t s beats (start .args .k) accepted
 
   fits : length beats ≤ mostBeats

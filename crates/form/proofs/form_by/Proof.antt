@@ -8,15 +8,15 @@ use borrow.Author.Needs.{needs}
 use Rattle.form.specs.Answers.{numberRows}
 use Rattle.refusal.proofs.Left.{accepted-left, refused-left}
 use Rattle.refusal.specs.declared.Verdict.{Verdict}
-use Rattle.refusal.specs.Order.{judge}
+use Rattle.refusal.specs.Rows.{judge}
 use Rattle.triangle.specs.Count.{N, largest}
 use Rattle.number.specs.Number.{formOf}
 use Rattle.form.proofs.Verdicts.{number-allowed, form-refused, form-long, form-taken}
 use Rattle.form.proofs.form_by.Statement.{statement}
 use Rattle.form.proofs.form_by.Tie as tie
 
-numbered-requires : tie.Need-numbered-requires
-numbered-requires c κs = search needs
+judge-number-requires : tie.Need-judge-number-requires
+judge-number-requires c κs = search needs
 
 enum-known-verdict : tie.Need-enum-known-verdict
 enum-known-verdict c = search needs
@@ -42,7 +42,7 @@ module _ (c : tie.After-enum-told) where
   out = start .args .out .now
 
   taken : judge (numberRows t s number) ≡ Verdict.Accepted
-  taken = sym (c .before .before .numbered .ensures) ∙ c .enum-told .given .1
+  taken = sym (c .before .before .judge-number .ensures) ∙ c .enum-told .given .1
 
   within : (t ≤ largest) × (s ≤ t) × (number < N t s)
   within = number-allowed t s number taken
@@ -63,7 +63,7 @@ returns-2 : tie.Need-returns-2
 returns-2 c =
     let called = c .before .before .before in
     let args = called .before .before .args in
-    let told = sym (called .numbered .ensures) ∙ c .before .verdict .given .1 in
+    let told = sym (called .judge-number .ensures) ∙ c .before .verdict .given .1 in
     let refused = form-refused (args .t) (args .s) (args .number) (args .out .now) told in
     refused-left refused (formOf (args .t) (args .s) (args .number)) (args .out .now)
 
@@ -82,7 +82,7 @@ pub form-by-spec : {M : Type 1} → statement M
 form-by-spec =
     tie.close
     (tie.spec
-    numbered-requires
+    judge-number-requires
     enum-known-verdict
     enum-told
     add-if1

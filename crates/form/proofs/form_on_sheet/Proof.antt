@@ -10,7 +10,7 @@ use Rattle.form.specs.Answers.{numberRows, sheetRows, onSheet}
 use Rattle.refusal.proofs.Left.{accepted-left, refused-left}
 use Rattle.refusal.specs.declared.Refusal.the-variants.{NoRoom}
 use Rattle.refusal.specs.declared.Verdict.{Verdict}
-use Rattle.refusal.specs.Order.{judge}
+use Rattle.refusal.specs.Rows.{judge}
 use Rattle.triangle.specs.Count.{N, largest}
 use Rattle.number.specs.Number.{formOf}
 use Rattle.number.proofs.Numbers.{form-schedule}
@@ -18,11 +18,11 @@ use Rattle.form.proofs.Verdicts.{number-allowed, sheet-refused, sheet-s
 use Rattle.form.proofs.form_on_sheet.Statement.{statement}
 use Rattle.form.proofs.form_on_sheet.Tie as tie
 
-slice-aggregate-numbered : tie.Need-slice-aggregate-numbered
-slice-aggregate-numbered c = search needs
+slice-aggregate-judge-number : tie.Need-slice-aggregate-judge-number
+slice-aggregate-judge-number c = search needs
 
-numbered-requires : tie.Need-numbered-requires
-numbered-requires c κs = search needs
+judge-number-requires : tie.Need-judge-number-requires
+judge-number-requires c κs = search needs
 
 enum-known-verdict : tie.Need-enum-known-verdict
 enum-known-verdict c = search needs
@@ -55,7 +55,7 @@ module _ (c : tie.After-enum-told) where
   sheet = start .args .sheet .now
 
   taken : judge (numberRows t s number) ≡ Verdict.Accepted
-  taken = sym (c .before .before .numbered .ensures) ∙ c .enum-told .given .1
+  taken = sym (c .before .before .judge-number .ensures) ∙ c .enum-told .given .1
 
   within : (t ≤ largest) × (s ≤ t) × (number < N t s)
   within = number-allowed t s number taken
@@ -99,7 +99,7 @@ returns-3 c =
     let called = c .before .before .before in
     let asked = called .before .before .before in
     let args = asked .args in
-    let told = sym (called .numbered .ensures) ∙ c .before .verdict .given .1 in
+    let told = sym (called .judge-number .ensures) ∙ c .before .verdict .given .1 in
     let refused = sheet-refused (args .t) (args .s) (args .number) (args .sheet .now) (args .column) told in
     refused-left refused (done asked) (args .sheet .now)
 
@@ -126,8 +126,8 @@ pub form-on-sheet-spec : {M : Type 1} → statement M
 form-on-sheet-spec =
     tie.close
     (tie.spec
-    slice-aggregate-numbered
-    numbered-requires
+    slice-aggregate-judge-number
+    judge-number-requires
     enum-known-verdict
     enum-told
     add-long

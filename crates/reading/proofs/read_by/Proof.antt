@@ -7,7 +7,7 @@ use native.Mathlib.Omega.{arith}
 use lib.ListN.{length}
 use Rattle.refusal.proofs.Left.{left-refused}
 use Rattle.refusal.specs.declared.Verdict.{Verdict}
-use Rattle.refusal.specs.Order.{judge}
+use Rattle.refusal.specs.Rows.{judge}
 use Rattle.triangle.specs.Count.{mostBeats}
 use Rattle.record.specs.Record.{Kind, numbered, beaten, kindOf, kindIn, isUnknown, long, cut, kindRows, readRows}
 use Rattle.record.proofs.Writing.{kind-other}

@@ -3,8 +3,8 @@
 use mathlib.Core.Path.{_≡_, _∙_, sym}
 use borrow.Author.Needs.{needs}
 use Rattle.refusal.specs.declared.Verdict.{Verdict}
-use Rattle.refusal.specs.Order.{judge}
-use Rattle.refusal.proofs.Order.{judge-refused, judge-accepted}
+use Rattle.refusal.specs.Rows.{judge}
+use Rattle.refusal.proofs.Rows.{judge-refused, judge-accepted}
 use Rattle.counts.specs.Counts.{countRows}
 use Rattle.schedule.specs.Check.{beatRows}
 use Rattle.schedule.proofs.check.Statement.{statement}

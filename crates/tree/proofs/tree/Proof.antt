@@ -5,7 +5,7 @@ use mathlib.Core.Path.{_≡_, _∙_, sym, subst}
 use Prim.Native.Nat.{ℕ}
 use lib.ListN.{length}
 use Rattle.refusal.specs.declared.Verdict.{Verdict}
-use Rattle.refusal.specs.Order.{judge}
+use Rattle.refusal.specs.Rows.{judge}
 use Rattle.schedule.specs.Check.{checked}
 use Rattle.tree.specs.Table.{Has, lentRows, filled, kept}
 use Rattle.tree.proofs.Sizes.{sizes-right, tree-unfit, tree-checked, taken-closed}

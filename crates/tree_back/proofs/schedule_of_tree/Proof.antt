@@ -7,7 +7,7 @@ use native.Mathlib.Omega.{arith}
 use lib.ListN.{length}
 use lib.Seq.{length-take-le}
 use Rattle.refusal.specs.declared.Verdict.{Verdict}
-use Rattle.refusal.specs.Order.{judge}
+use Rattle.refusal.specs.Rows.{judge}
 use Rattle.triangle.specs.Count.{largest}
 use Rattle.tree.specs.Table.{lentRows}
 use Rattle.tree_back.specs.Back.{Untreed, unfit}

@@ -10,7 +10,7 @@ use Rattle.form.specs.Answers.{numberRows, formRows}
 use Rattle.refusal.proofs.Left.{left-part, left-refused}
 use Rattle.refusal.specs.Answer.{left}
 use Rattle.refusal.specs.declared.Verdict.{Verdict}
-use Rattle.refusal.specs.Order.{judge}
+use Rattle.refusal.specs.Rows.{judge}
 use Rattle.triangle.specs.Count.{largest, mostBeats}
 use Rattle.counts.proofs.Sizes.{counts-allowed}
 use Rattle.number.specs.Number.{formOf}

@@ -10,7 +10,7 @@ use lib.ListN.{length}
 use Rattle.refusal.proofs.Left.{left-accepted, left-refused}
 use Rattle.refusal.specs.declared.Verdict.{Verdict}
 use Rattle.refusal.specs.Answer.{answer}
-use Rattle.refusal.specs.Order.{judge}
+use Rattle.refusal.specs.Rows.{judge}
 use Rattle.refusal.proofs.Theorems.{answer-refused, answer-value}
 use Rattle.schedule.specs.Check.{checked}
 use Rattle.schedule.proofs.Copied.{copied}

@@ -9,8 +9,8 @@ use lib.Seq.{length-take-le}
 use Rattle.refusal.proofs.Left.{left-part, left-refused}
 use Rattle.refusal.specs.Answer.{left}
 use Rattle.refusal.specs.declared.Verdict.{Verdict}
-use Rattle.refusal.specs.Order.{judge}
-use Rattle.refusal.proofs.Order.{judge-refused, judge-accepted}
+use Rattle.refusal.specs.Rows.{judge}
+use Rattle.refusal.proofs.Rows.{judge-refused, judge-accepted}
 use Rattle.triangle.specs.Count.{largest, mostBeats}
 use Rattle.counts.specs.Counts.{countRows}
 use Rattle.counts.proofs.Sizes.{counts-allowed}

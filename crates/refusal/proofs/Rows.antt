@@ -11,7 +11,7 @@ use Prim.Native.Nat.{ℕ}
 use native.Mathlib.Omega.{arith}
 use Rattle.refusal.specs.declared.Refusal.{Refusal}
 use Rattle.refusal.specs.declared.Verdict.{Verdict}
-use Rattle.refusal.specs.Order.{Row, _⇒_, judge}
+use Rattle.refusal.specs.Rows.{Row, _⇒_, judge}
 
 pub judge-refused : (l m : List Row) (why : Refusal) → judge l ≡ Verdict.Refused why → judge (l ++ m) ≡ Verdict.Refused why
 judge-refused [] m why e = let z : _≡_ {A = ℕ} 0 1 = cc in absurd (omega arith)

@@ -1,14 +1,14 @@
--- `form::numbered` meets its contract: the counts' refusals first, then 7. Assumes nothing.
+-- `form::judge_number` meets its contract: the counts' refusals first, then 7. Assumes nothing.
 use mathlib.Core.Path.{_≡_, _∙_, sym}
 use native.Mathlib.Omega.{arith}
 use borrow.Author.Needs.{needs}
 use Rattle.refusal.specs.declared.Verdict.{Verdict}
-use Rattle.refusal.specs.Order.{judge}
+use Rattle.refusal.specs.Rows.{judge}
 use Rattle.counts.specs.Counts.{countRows}
 use Rattle.counts.proofs.Sizes.{counts-allowed}
 use Rattle.form.proofs.Verdicts.{number-refused, number-beyond, number-taken}
-use Rattle.form.proofs.numbered.Statement.{statement}
-use Rattle.form.proofs.numbered.Tie as tie
+use Rattle.form.proofs.judge_number.Statement.{statement}
+use Rattle.form.proofs.judge_number.Tie as tie
 
 allowed-requires : tie.Need-allowed-requires
 allowed-requires c κs = search needs
@@ -48,8 +48,8 @@ returns-3 c =
     let args = start told .args in
     sym (number-beyond (args .t) (args .s) (args .number) (fine told) (omega (arith, c .if1 .left, c .before .look .ensures)))
 
-pub numbered-spec : {M : Type 1} → statement M
-numbered-spec =
+pub judge-number-spec : {M : Type 1} → statement M
+judge-number-spec =
     tie.close
     (tie.spec
     allowed-requires
