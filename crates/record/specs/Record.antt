@@ -29,7 +29,7 @@ use Rattle.refusal.specs.declared.Refusal.{Refusal}
 use Rattle.refusal.specs.declared.Refusal.the-variants.{NoSuchNumber, CutShort, UnknownKind, WrongSize, NoRoom}
 use Rattle.refusal.specs.declared.Verdict.{Verdict}
 use Rattle.refusal.specs.Answer.{answer, left}
-use Rattle.refusal.specs.Refusal as refusal
+use Rattle.refusal.specs.Refusal.{refusalNumber}
 use Rattle.refusal.specs.Rows.{Row, _⇒_, judge}
 use Rattle.triangle.specs.Count.{N, mostBeats}
 use Rattle.counts.specs.Counts.{countRows}
@@ -151,4 +151,4 @@ abbrev pub readRows : ℕ → List ℕ → List Row
 readRows room src = headRows room src ++ kindRows (kindIn src) src
 
 abbrev pub eaten : Refusal → ℕ → ℕ
-eaten why l = cond (eqb (refusal.numberOf why) 9 || eqb (refusal.numberOf why) 12) 0 (2 + l)
+eaten why l = cond (eqb (refusalNumber why) 9 || eqb (refusalNumber why) 12) 0 (2 + l)
