@@ -125,9 +125,9 @@ owed-1 = beats of-check in-check
 owed-2 : Owed (check 1 0 (1 ∷ [])) (1 ∷ []) 2 → ⊥
 owed-2 p = omega (arith, accepted-owed [] ((1 ∷ []) ∷ []) p checks-1)
 
--- a count of (33,0) is wrong, and one of (2,1) is not
-wrong-33 : Wrong (count 33 0)
-wrong-33 = counts-above {t = 33} {s = 0} of-count (omega arith)
+-- a count of (200,0) is wrong, and one of (2,1) is not
+wrong-200 : Wrong (count 200 0)
+wrong-200 = counts-above {t = 200} {s = 0} of-count (omega arith)
 
 -- lengths that are wrong: a sheet of four bytes for five beats, 63 places to read into, 13 bytes for a record of 14, and a record with L = 13
 -- that is of kind 1
@@ -148,18 +148,18 @@ wrong-size = size-numbered {src = 13 ∷ 0 ∷ 1 ∷ 0 ∷ []} refl (λ e. omega
 wrong-2-1 : Wrong (count 2 1) → ⊥
 wrong-2-1 p = call-refused (count 2 1) (2 ∷ []) [] p gives-2
 
--- the demands are met by allowed counts, and not by 33 tasks
+-- the demands are met by allowed counts, and not by 200 tasks
 demand-2-3 : Demand2 3 2
 demand-2-3 = demands .second 3 2 (omega arith, omega arith)
 
-demand-2-33 : Demand2 33 0 → ⊥
-demand-2-33 p = omega (arith, accepted-counts {t = 33} {s = 0} _ _ of-next (p .next-form (top 33 0) (top-schedule 33 0 (omega arith))) .0)
+demand-2-200 : Demand2 200 0 → ⊥
+demand-2-200 p = omega (arith, accepted-counts {t = 200} {s = 0} _ _ of-next (p .next-form (top 200 0) (top-schedule 200 0 (omega arith))) .0)
 
 demand-3-all-3 : Demand3All 3 2
 demand-3-all-3 = demands .third-all 3 2 (omega arith, omega arith)
 
-demand-3-all-33 : Demand3All 33 0 → ⊥
-demand-3-all-33 p = omega (arith, accepted-counts {t = 33} {s = 0} _ _ (of-run {k = 0}) (p .run-given (top 33 0) 0 (top-schedule 33 0 (omega arith)) (omega arith)) .0)
+demand-3-all-200 : Demand3All 200 0 → ⊥
+demand-3-all-200 p = omega (arith, accepted-counts {t = 200} {s = 0} _ _ (of-run {k = 0}) (p .run-given (top 200 0) 0 (top-schedule 200 0 (omega arith)) (omega arith)) .0)
 
 -- the round is met by (3,2); (1,1) has one form, whose step changes nothing
 demand-3-3 : Demand3 3 2

@@ -26,7 +26,7 @@ use lib.ListN.{replicate}
 use Rattle.bounded.specs.Bounded.{every, firstFrom}
 use Rattle.refusal.specs.declared.Refusal.{Refusal}
 use Rattle.refusal.specs.declared.Verdict.{Verdict}
-use Rattle.triangle.specs.Count.{N}
+use Rattle.triangle.specs.Count.{N, mostBeats}
 use Rattle.schedule.specs.Schedule.{ones, zeros, isSchedule}
 use Rattle.circle.specs.Step.{shift, found, has01, movesNext}
 use Rattle.circle.specs.Step as rule
@@ -136,11 +136,11 @@ module _ (why : Refusal) (m : List ℕ) (x : List (List ℕ)) where
       Gives (schedule-of-tree 2 (2 ∷ 0 ∷ []) (0 ∷ 0 ∷ []) (0 ∷ 1 ∷ []) (room 4)) (Verdict.Refused why) m x → ⊥
   schedule-of-tree-refusing g = never (untreed-one (g .1) untreed-1100 .0)
 
-  pub read-refusing : Gives (read (record-of 2) (room 64)) (Verdict.Refused why) m x → ⊥
+  pub read-refusing : Gives (read (record-of 2) (room mostBeats)) (Verdict.Refused why) m x → ⊥
   unfolding N valueOf
   read-refusing g = never (g .0 .0)
 
-  pub read-beaten-refusing : Gives (read (5 ∷ 0 ∷ 2 ∷ 0 ∷ 3 ∷ 2 ∷ 168 ∷ []) (room 64)) (Verdict.Refused why) m x → ⊥
+  pub read-beaten-refusing : Gives (read (5 ∷ 0 ∷ 2 ∷ 0 ∷ 3 ∷ 2 ∷ 168 ∷ []) (room mostBeats)) (Verdict.Refused why) m x → ⊥
   unfolding firstFrom ones zeros valueOf tabulate
   read-beaten-refusing g = never (g .0 .0)
 
@@ -179,8 +179,8 @@ module _ (v w : Verdict) (n : ℕ) (x y : List (List ℕ)) where
   unfolding N every firstFrom ones zeros isSchedule shift found has01 movesNext rule.next walk.changed steps
   number-fixed g h = let z : _≡_ {A = ℕ} 0 1 = cc (g .0 .1, h .0 .1) in omega arith
 
-  pub read-fixed : (t s c t′ s′ c′ : ℕ) → Gives (read (record-of 2) (room 64)) v (t ∷ s ∷ n ∷ c ∷ []) x
-      → Gives (read (record-of 3) (room 64)) w (t′ ∷ s′ ∷ n ∷ c′ ∷ []) y → ⊥
+  pub read-fixed : (t s c t′ s′ c′ : ℕ) → Gives (read (record-of 2) (room mostBeats)) v (t ∷ s ∷ n ∷ c ∷ []) x
+      → Gives (read (record-of 3) (room mostBeats)) w (t′ ∷ s′ ∷ n ∷ c′ ∷ []) y → ⊥
   unfolding N valueOf
   read-fixed t s c t′ s′ c′ g h = let z : _≡_ {A = ℕ} 2 3 = cc (g .0 .1, h .0 .1) in omega arith
 
@@ -225,8 +225,8 @@ module _ (v w : Verdict) (m k l : List ℕ) where
       let z : _≡_ {A = ℕ} 1 0 = cc (e, f, g .3, h .3) in
       omega arith
 
-  pub read-fixed-form : (b c : List ℕ) → Gives (read (record-of 0) (room 64)) v m (b ∷ l ∷ [])
-      → Gives (read (record-of 1) (room 64)) w k (c ∷ l ∷ []) → ⊥
+  pub read-fixed-form : (b c : List ℕ) → Gives (read (record-of 0) (room mostBeats)) v m (b ∷ l ∷ [])
+      → Gives (read (record-of 1) (room mostBeats)) w k (c ∷ l ∷ []) → ⊥
   unfolding N valueOf every firstFrom ones zeros isSchedule shift found has01 movesNext rule.next steps
   read-fixed-form b c g h = let z : _≡_ {A = ℕ} 1 0 = cc (g .1, h .1) in omega arith
 

@@ -23,4 +23,5 @@ acceptedLine t s n b = decimal t ++ 32 ∷ decimal s ++ 32 ∷ decimal n ++ 32 �
 -- 114, 101, 102, 117, 115, 101, 100 and 32 are the word refused and a space
 abbrev pub refusedLine : Refusal → List ℕ
 refusedLine why =
-    114 ∷ 101 ∷ 102 ∷ 117 ∷ 115 ∷ 101 ∷ 100 ∷ 32 ∷ decimal (refusalNumber why) ++ 32 ∷ decimal (refusalPlace why) ++ 10 ∷ []
+    114 ∷ 101 ∷ 102 ∷ 117 ∷ 115 ∷ 101 ∷ 100 ∷ 32 ∷
+    decimal (refusalNumber why) ++ 32 ∷ decimal (refusalPlace why) ++ 10 ∷ []

@@ -100,8 +100,8 @@ lists-two = S-lists (omega arith)
 sized-5 : isSized 3 2 (1 ∷ 1 ∷ 0 ∷ 1 ∷ 0 ∷ []) ≡ true
 sized-5 = refl
 
-unsized-33 : isSized 33 0 [] ≡ false
-unsized-33 = refl
+unsized-200 : isSized 200 0 [] ≡ false
+unsized-200 = refl
 
 unsized-1-2 : isSized 1 2 (1 ∷ 0 ∷ 0 ∷ []) ≡ false
 unsized-1-2 = refl

@@ -8,7 +8,7 @@ use native.Mathlib.Omega.{arith}
 use lib.ListN.{replicate}
 use Rattle.text.specs.Decimal.{digits, decimal}
 use Rattle.bounded.specs.Bounded.{every, firstFrom}
-use Rattle.triangle.specs.Count.{N}
+use Rattle.triangle.specs.Count.{N, mostBeats}
 use Rattle.schedule.specs.Schedule.{ones, zeros, isSchedule}
 use Rattle.circle.specs.Step.{shift, found, has01, movesNext, next}
 use Rattle.circle.specs.Walk.{steps, changed}
@@ -76,10 +76,10 @@ unfolding listFrom valueOf tabulate N digits decimal beatText every firstFrom on
 cut-list = refl
 
 -- buffers that every record and every schedule fit into; one byte less is too little
-large-enough : Buffers (replicate 1022 0) (replicate 64 0)
+large-enough : Buffers (replicate 1022 0) (replicate mostBeats 0)
 large-enough = record { any-record = omega arith; any-beats = refl }
 
-input-too-small : Buffers (replicate 1021 0) (replicate 64 0) → ⊥
+input-too-small : Buffers (replicate 1021 0) (replicate mostBeats 0) → ⊥
 input-too-small p = omega (arith, p .any-record)
 
 room-too-small : Buffers (replicate 1022 0) (replicate 63 0) → ⊥

@@ -9,7 +9,7 @@ use Rattle.bounded.specs.Bounded.{every, firstFrom}
 use Rattle.refusal.specs.declared.Refusal.the-variants.{WrongSize, UnknownKind, CutShort, NoRoom, EmptyHand, WrongTakeUps, NoSuchNumber}
 use Rattle.refusal.specs.declared.Verdict.{Verdict}
 use Rattle.refusal.specs.Rows.{judge}
-use Rattle.triangle.specs.Count.{N}
+use Rattle.triangle.specs.Count.{N, mostBeats}
 use Rattle.schedule.specs.Schedule.{ones, zeros, isSchedule}
 use Rattle.circle.specs.Step.{shift, found, has01, movesNext, next}
 use Rattle.circle.specs.Walk.{steps, changed}
@@ -230,43 +230,43 @@ unfolding tabulate N every firstFrom ones zeros isSchedule shift found has01 mov
 meant-number-2 = refl
 
 -- the second record of the manual, and the same cut by a byte, with L = 0, and of kind 3
-taken : judge (readRows 64 (5 ∷ 0 ∷ 2 ∷ 0 ∷ 3 ∷ 2 ∷ 168 ∷ [])) ≡ Verdict.Accepted
+taken : judge (readRows mostBeats (5 ∷ 0 ∷ 2 ∷ 0 ∷ 3 ∷ 2 ∷ 168 ∷ [])) ≡ Verdict.Accepted
 unfolding valueOf tabulate firstFrom ones zeros
 taken = refl
 
 -- [D1c]
-cut-short : judge (readRows 64 (5 ∷ 0 ∷ 2 ∷ 0 ∷ 3 ∷ 2 ∷ [])) ≡ Verdict.Refused CutShort
+cut-short : judge (readRows mostBeats (5 ∷ 0 ∷ 2 ∷ 0 ∷ 3 ∷ 2 ∷ [])) ≡ Verdict.Refused CutShort
 unfolding valueOf
 cut-short = refl
 
-nothing : judge (readRows 64 []) ≡ Verdict.Refused CutShort
+nothing : judge (readRows mostBeats []) ≡ Verdict.Refused CutShort
 unfolding valueOf
 nothing = refl
 
-tiny : judge (readRows 64 (0 ∷ 0 ∷ [])) ≡ Verdict.Refused WrongSize
+tiny : judge (readRows mostBeats (0 ∷ 0 ∷ [])) ≡ Verdict.Refused WrongSize
 unfolding valueOf
 tiny = refl
 
 -- [R13]
-other-kind : judge (readRows 64 (5 ∷ 0 ∷ 3 ∷ 0 ∷ 3 ∷ 2 ∷ 168 ∷ [])) ≡ Verdict.Refused UnknownKind
+other-kind : judge (readRows mostBeats (5 ∷ 0 ∷ 3 ∷ 0 ∷ 3 ∷ 2 ∷ 168 ∷ [])) ≡ Verdict.Refused UnknownKind
 unfolding valueOf
 other-kind = refl
 
 -- an unused bit set; a beat with nothing in hand, 10100; one 1 too many, 11101
-bit-set : judge (readRows 64 (5 ∷ 0 ∷ 2 ∷ 0 ∷ 3 ∷ 2 ∷ 169 ∷ [])) ≡ Verdict.Refused WrongSize
+bit-set : judge (readRows mostBeats (5 ∷ 0 ∷ 2 ∷ 0 ∷ 3 ∷ 2 ∷ 169 ∷ [])) ≡ Verdict.Refused WrongSize
 unfolding valueOf tabulate firstFrom ones zeros
 bit-set = refl
 
-bare : judge (readRows 64 (5 ∷ 0 ∷ 2 ∷ 0 ∷ 3 ∷ 2 ∷ 160 ∷ [])) ≡ Verdict.Refused (EmptyHand 4)
+bare : judge (readRows mostBeats (5 ∷ 0 ∷ 2 ∷ 0 ∷ 3 ∷ 2 ∷ 160 ∷ [])) ≡ Verdict.Refused (EmptyHand 4)
 unfolding valueOf tabulate firstFrom ones zeros
 bare = refl
 
-one-more : judge (readRows 64 (5 ∷ 0 ∷ 2 ∷ 0 ∷ 3 ∷ 2 ∷ 232 ∷ [])) ≡ Verdict.Refused WrongTakeUps
+one-more : judge (readRows mostBeats (5 ∷ 0 ∷ 2 ∷ 0 ∷ 3 ∷ 2 ∷ 232 ∷ [])) ≡ Verdict.Refused WrongTakeUps
 unfolding valueOf tabulate firstFrom ones zeros
 one-more = refl
 
 -- its third record: number 5 of (3,2)
-no-number : judge (readRows 64 (12 ∷ 0 ∷ 1 ∷ 0 ∷ 3 ∷ 2 ∷ 5 ∷ 0 ∷ 0 ∷ 0 ∷ 0 ∷ 0 ∷ 0 ∷ 0 ∷ [])) ≡ Verdict.Refused NoSuchNumber
+no-number : judge (readRows mostBeats (12 ∷ 0 ∷ 1 ∷ 0 ∷ 3 ∷ 2 ∷ 5 ∷ 0 ∷ 0 ∷ 0 ∷ 0 ∷ 0 ∷ 0 ∷ 0 ∷ [])) ≡ Verdict.Refused NoSuchNumber
 unfolding valueOf N
 no-number = refl
 

@@ -193,8 +193,8 @@ unfolding ones zeros firstFrom
 checked-accepts = refl
 
 -- [E2]
-checked-33 : checked 33 0 [] ≡ Verdict.Refused TooManyTasks
-checked-33 = refl
+checked-200 : checked 200 0 [] ≡ Verdict.Refused TooManyTasks
+checked-200 = refl
 
 -- [E2]
 checked-2-3 : checked 2 3 [] ≡ Verdict.Refused MoreDownThanUp
@@ -219,8 +219,8 @@ unfolding ones zeros firstFrom
 checked-111 = refl
 
 -- the meaning of each refusal
-refuses-33 : Refuses 33 0 [] TooManyTasks
-refuses-33 = refused-refuses 33 0 [] TooManyTasks checked-33
+refuses-200 : Refuses 200 0 [] TooManyTasks
+refuses-200 = refused-refuses 200 0 [] TooManyTasks checked-200
 
 refuses-2-3 : Refuses 2 3 [] MoreDownThanUp
 refuses-2-3 = refused-refuses 2 3 [] MoreDownThanUp checked-2-3

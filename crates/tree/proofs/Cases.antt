@@ -75,8 +75,8 @@ beats-long = refl
 sizes-taken : judge (sizeRows 2 4 2 2 2) ≡ Verdict.Accepted
 sizes-taken = refl
 
-sizes-33 : judge (sizeRows 33 0 0 0 0) ≡ Verdict.Refused TooManyTasks
-sizes-33 = refl
+sizes-200 : judge (sizeRows 200 0 0 0 0) ≡ Verdict.Refused TooManyTasks
+sizes-200 = refl
 
 sizes-short : judge (sizeRows 2 4 2 1 2) ≡ Verdict.Refused WrongLength
 sizes-short = refl

@@ -10,6 +10,7 @@ use Rattle.refusal.specs.declared.Verdict.{Verdict}
 use Rattle.schedule.specs.Schedule.{Schedule}
 use Rattle.schedule.specs.Check.{checked}
 use Rattle.schedule.proofs.Theorems.{accepted-schedule}
+use Rattle.triangle.specs.Count.{mostBeats}
 use Rattle.counts.specs.Counts.{Allowed}
 use Rattle.circle.proofs.Forms.{refused-so, accepted-so}
 use Rattle.record.specs.Bytes.{lowFirst, bytesFor, packed}
@@ -45,7 +46,7 @@ module _ (c : tie.After-enum-told) where
   form : Allowed t s × Schedule t s beats
   form = accepted-schedule t s beats taken
 
-  few : (t < 256) × (s < 256) × (length beats ≤ 64)
+  few : (t < 256) × (s < 256) × (length beats ≤ mostBeats)
   few = (omega (arith, form .0 .0), omega (arith, form .0 .0, form .0 .1), omega (arith, form .0 .0, form .0 .1, form .1 .size))
 
 -- the packed bytes
