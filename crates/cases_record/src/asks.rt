@@ -1,6 +1,6 @@
 // One call of either way, printed with its input. The bytes that are lent to be filled are 7 before the call,
 // and the line has them as they are after it.
-use order::Reading;
+use record::Reading;
 
 fn print_number(n: u64) {
     show::text(b" ");
@@ -39,7 +39,7 @@ fn print_read(src: &[u8], out: &mut [u8]) {
     print_bytes(src);
     print_number(out.len() as u64);
     show::text(b": ");
-    print_reading(reading::read(src, out));
+    print_reading(reader::read(src, out));
     print_bytes(out);
     show::text(b"\n");
 }
@@ -98,7 +98,7 @@ fn print_filled(head: &[u8], src: &mut [u8]) {
     print_bytes(head);
     print_number(src.len() as u64);
     show::text(b": ");
-    print_reading(reading::read(src, &mut out));
+    print_reading(reader::read(src, &mut out));
     print_bytes(&out);
     show::text(b"\n");
 }

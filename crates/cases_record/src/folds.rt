@@ -1,5 +1,5 @@
 // What many calls answered and left, for the lines that stand for many calls.
-use order::Reading;
+use record::Reading;
 use refusal::Answer;
 
 // How many calls were as wished, and the digest of every call's answer and of all bytes that were lent to it
@@ -48,7 +48,7 @@ fn fold_reading(before: u64, r: Reading, out: &[u8]) -> u64 {
 }
 
 fn read_into(tally: Tally, src: &[u8], out: &mut [u8]) -> Tally {
-    let r = reading::read(src, out);
+    let r = reader::read(src, out);
     let sum = fold_reading(tally.sum, r, out);
     counted(tally, r.verdict().refusal() == 0, sum)
 }
@@ -102,7 +102,7 @@ fn both_into(
 ) -> Tally {
     let a = record::write(kind, t, s, beats, bytes);
     let written = fold_writing(tally.sum, a, bytes);
-    let r = reading::read(bytes, out);
+    let r = reader::read(bytes, out);
     let sum = fold_reading(written, r, out);
     if says(r, t, s, x, a.value()) {
         return counted(tally, starts(out, beats), sum);

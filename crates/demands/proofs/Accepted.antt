@@ -21,7 +21,7 @@ use Rattle.refusal.specs.Answer.{answer, verdict}
 use Rattle.refusal.specs.Rows.{_⇒_, judge}
 use Rattle.refusal.proofs.Rows.{judge-front, judge-back}
 use Rattle.refusal.proofs.Theorems.{verdict-answer, accepted-none}
-use Rattle.triangle.specs.Count.{largest}
+use Rattle.triangle.specs.Count.{N, largest}
 use Rattle.counts.specs.Counts.{Allowed}
 use Rattle.counts.proofs.Sizes.{counts-allowed}
 use Rattle.schedule.specs.Schedule.{Schedule}
@@ -33,10 +33,14 @@ use Rattle.tree.specs.Table.{Treed, filled, kept}
 use Rattle.tree.proofs.Sizes.{sizes-right}
 use Rattle.tree.proofs.Theorems.{tree-accepts}
 use Rattle.tree_back.specs.Back.{Untreed, found, none, unfit}
-use Rattle.record.specs.Record.{Kind, isUnknown, kindOf, recordOf, roomRow, writeRows, kindRows}
-use Rattle.reading.proofs.Verdicts.{told-verdict}
-use Rattle.reading.proofs.Parts.{read-facts}
-use Rattle.reading.proofs.Meaning.{numbered-facts, beaten-facts, read-means}
+use Rattle.record.specs.declared.layout.Layout.{Layout}
+use Rattle.record.specs.Bytes.{bytesFor, valueOf}
+use Rattle.record.specs.Layout.{layoutOf, countsAt, isUnknown}
+use Rattle.record.specs.Record.{recordOf, roomRow, writeRows, knownRows, kindRows, long, upsAt, downsAt, bodyAt}
+use Rattle.reader.proofs.Heads.{whole-long, body-size}
+use Rattle.reader.proofs.Verdicts.{told-verdict}
+use Rattle.reader.proofs.Parts.{read-facts}
+use Rattle.reader.proofs.Meaning.{numbered-facts, beaten-facts, read-means}
 use Rattle.demands.specs.Calls.{Call, Gives}
 use Rattle.demands.specs.Calls.{CountsOf, of-count, of-check, of-next, of-changed, of-run, of-run-changed, of-number, of-form, of-form-on-sheet, of-tree, of-schedule-of-tree, of-read, of-write}
 use Rattle.demands.specs.Calls.{BeatsOf, in-check, in-next, in-changed, in-run, in-run-changed, in-number, in-tree, in-write}
@@ -52,7 +56,9 @@ run-checked t s b k e = judge-front (checkRows t s b) ((ltb mostSteps k ⇒ RunT
 
 write-checked : (kind t s : ℕ) (b out : List ℕ) → judge (writeRows kind t s b out) ≡ Verdict.Accepted → checked t s b ≡ Verdict.Accepted
 write-checked kind t s b out e =
-    judge-front (checkRows t s b) (roomRow kind t s b out ∷ []) (judge-back ((isUnknown (kindOf kind) ⇒ UnknownKind) ∷ []) (checkRows t s b ++ roomRow kind t s b out ∷ []) e)
+    let known = (isUnknown (layoutOf kind) ⇒ UnknownKind) ∷ [] in
+    let bytes = recordOf kind t s b in
+    judge-front (checkRows t s b) (roomRow bytes out ∷ []) (judge-back known (knownRows t s b bytes out) e)
 
 form-counts : (t s n : ℕ) → judge (numberRows t s n) ≡ Verdict.Accepted → Allowed t s
 form-counts t s n e = let a = number-allowed t s n e in (a .0, a .1)
@@ -125,24 +131,31 @@ call-refused c m x (bad-beat bs k h w) g = omega (arith, accepted-beats m x (ask
 call-refused c m x (wrong-length o d) g = d (accepted-owed m x o g)
 call-refused c m x (no-form {t} {s} {n} {out} h) g = omega (arith, number-allowed t s n (form-allowed t s n out (sym (g .0 .0)) .0) .2)
 call-refused c m x (no-form-on-sheet {t} {s} {n} {sheet} {column} h) g = omega (arith, number-allowed t s n (sheet-number t s n sheet column (sym (g .0 .0))) .2)
-call-refused c m x (no-form-in-record {src} {out} k h) g =
+call-refused c m x (no-form-in-record {src} {out} {at} k h) g =
     let rows = read-facts (length out) src (sym (g .0 .0 ∙ told-verdict _ _ _ _ _)) .4 in
-    omega (arith, numbered-facts src (subst (λ (kind : Kind). judge (kindRows kind src) ≡ Verdict.Accepted) k rows) .2)
+    let above : N (upsAt at src) (downsAt at src) ≤ valueOf (bodyAt at src) =
+    subst (λ (j : Layout). N (upsAt (countsAt j) src) (downsAt (countsAt j) src) ≤ valueOf (bodyAt (countsAt j) src)) k h in
+    omega (arith, above, numbered-facts at src (subst (λ (j : Layout). judge (kindRows j src) ≡ Verdict.Accepted) k rows) .2)
 call-refused c m x (sheet-short {t} {s} {n} {sheet} {column} h) g =
     let row = ltb (length sheet) (column + t + s) ⇒ NoRoom in
     let fits = accepted-none (row ∷ []) (judge-back (numberRows t s n) (row ∷ []) (sym (g .0 .0))) row (List·Memᴰ·head refl) in
     omega (arith, ltb-false (length sheet) (column + t + s) fits)
 call-refused c m x (places-few {src} {out} h) g = omega (arith, read-facts (length out) src (sym (g .0 .0 ∙ told-verdict _ _ _ _ _)) .0)
 call-refused c m x (room-short {kind} {t} {s} {b} {out} h) g =
-    let row = roomRow kind t s b out in
-    let known = (isUnknown (kindOf kind) ⇒ UnknownKind) ∷ [] in
-    let last = judge-back (checkRows t s b) (row ∷ []) (judge-back known (checkRows t s b ++ row ∷ []) (taken _ _ (g .0 .0))) in
+    let bytes = recordOf kind t s b in
+    let row = roomRow bytes out in
+    let known = (isUnknown (layoutOf kind) ⇒ UnknownKind) ∷ [] in
+    let rows = judge-back known (knownRows t s b bytes out) (taken _ _ (g .0 .0)) in
+    let last = judge-back (checkRows t s b) (row ∷ []) rows in
     omega (arith, ltb-false (length out) (length (recordOf kind t s b)) (accepted-none (row ∷ []) last row (List·Memᴰ·head refl)))
 call-refused c m x (size-tiny {src} {out} h) g = omega (arith, read-facts (length out) src (sym (g .0 .0 ∙ told-verdict _ _ _ _ _)) .2)
-call-refused c m x (size-numbered {src} {out} k d) g =
+call-refused c m x (size-numbered {src} {out} {at} k d) g =
     let rows = read-facts (length out) src (sym (g .0 .0 ∙ told-verdict _ _ _ _ _)) .4 in
-    d (numbered-facts src (subst (λ (kind : Kind). judge (kindRows kind src) ≡ Verdict.Accepted) k rows) .0)
-call-refused c m x (size-beaten {src} {out} k d) g =
-    let rows = read-facts (length out) src (sym (g .0 .0 ∙ told-verdict _ _ _ _ _)) .4 in
-    d (beaten-facts src (subst (λ (kind : Kind). judge (kindRows kind src) ≡ Verdict.Accepted) k rows) .exact)
+    d (numbered-facts at src (subst (λ (j : Layout). judge (kindRows j src) ≡ Verdict.Accepted) k rows) .0)
+call-refused c m x (size-beaten {src} {out} {at} k d) g =
+    let facts = read-facts (length out) src (sym (g .0 .0 ∙ told-verdict _ _ _ _ _)) in
+    let fit = beaten-facts at src (subst (λ (j : Layout). judge (kindRows j src) ≡ Verdict.Accepted) k (facts .4)) in
+    let size = body-size src at (fit .reaches) (whole-long src (facts .1) .1) in
+    let exact : long src ≡ at + bytesFor (upsAt at src + downsAt at src) = omega (arith, size, fit .exact, fit .reaches) in
+    d (subst (λ (j : Layout). long src ≡ at + bytesFor (upsAt (countsAt j) src + downsAt (countsAt j) src)) (sym k) exact)
 call-refused c m x (cut-record {src} {out} h) g = true≢false (sym h ∙ read-facts (length out) src (sym (g .0 .0 ∙ told-verdict _ _ _ _ _)) .1)

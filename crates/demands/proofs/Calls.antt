@@ -25,10 +25,10 @@ use Rattle.tree.proofs.Theorems.{treed-one}
 use Rattle.tree_back.specs.Back.{Untreed, found, none, unfit}
 use Rattle.tree_back.proofs.Theorems.{untreed-one}
 use Rattle.record.specs.Record.{recordOf, writeRows, writeAnswer, readRows}
-use Rattle.order.specs.declared.Reading.{Reading}
-use Rattle.reading.specs.Reading.{readAnswer}
-use Rattle.order.specs.Parts as said
-use Rattle.reading.proofs.Verdicts.{told-verdict}
+use Rattle.record.specs.declared.reading.Reading.{Reading}
+use Rattle.reader.specs.Answers.{readAnswer}
+use Rattle.record.specs.Parts as said
+use Rattle.reader.proofs.Verdicts.{told-verdict}
 use Rattle.demands.specs.Calls.{Call, count, check, next, changed, run, run-changed, number, form, form-on-sheet, tree, schedule-of-tree, read, write, lent, Says, Gives, silenced}
 
 -- a refused call leaves what was lent
@@ -104,7 +104,7 @@ call-silent (read src out) why m x g i = by (readAnswer src out) (g .0 .0) (g .0
     zeros (suc (suc (suc i))) = refl
 
     by : (a : Reading) → Verdict.Refused why ≡ said.verdict a → m ≡ said.t a ∷ said.s a ∷ said.number a ∷ said.consumed a ∷ [] → getD (take 3 m) i 0 ≡ 0
-    by (Reading.Order o) e f = let z : _≡_ {A = ℕ} 0 1 = cc in absurd (omega arith)
+    by (Reading.Accepted o) e f = let z : _≡_ {A = ℕ} 0 1 = cc in absurd (omega arith)
     by (Reading.Refused r n) e f = ap (λ (l : List ℕ). getD (take 3 l) i 0) f ∙ zeros i
 call-silent (write kind t s b out) why m x g i = no-value (writeAnswer kind t s b out) why m (g .0) i
 

@@ -9,8 +9,8 @@ use mathlib.Core.Path.{_≡_, ap}
 use Prim.Native.Nat.{ℕ}
 use Rattle.refusal.specs.declared.Answer.{Answer}
 use Rattle.refusal.specs.Answer.{verdict, value}
-use Rattle.order.specs.declared.Reading.{Reading}
-use Rattle.order.specs.Parts as said
+use Rattle.record.specs.declared.reading.Reading.{Reading}
+use Rattle.record.specs.Parts as said
 use Rattle.demands.specs.Calls.{Says}
 
 pub says : (a b : Answer) → a ≡ b → Says b (verdict a) (value a ∷ [])

@@ -26,8 +26,8 @@ use Rattle.number.specs.Answers.{numberAnswer}
 use Rattle.tree.specs.Table.{Treed}
 use Rattle.tree_back.specs.Back.{Untreed}
 use Rattle.record.specs.Record.{ups, downs, writeAnswer, writeLeft}
-use Rattle.reading.specs.Reading.{readAnswer, readLeft}
-use Rattle.order.specs.Parts as said
+use Rattle.reader.specs.Answers.{readAnswer, readLeft}
+use Rattle.record.specs.Parts as said
 
 pub data Call : Type 0 where
   count : (t s : ℕ) → Call

@@ -29,7 +29,9 @@ use Rattle.circle.specs.Walk as walk
 use Rattle.circle.specs.Answers.{mostSteps}
 use Rattle.number.specs.Number.{Fewest}
 use Rattle.record.specs.Bytes.{valueOf, bytesFor}
-use Rattle.record.specs.Record.{numbered, beaten, recordOf, long, kindIn, ups, downs, body, cut}
+use Rattle.record.specs.declared.layout.Layout.{Layout}
+use Rattle.record.specs.Layout.{numberBytes}
+use Rattle.record.specs.Record.{recordOf, long, layoutIn, ups, downs, body, cut}
 use Rattle.demands.specs.Calls.{Call, count, next, run, number, form, form-on-sheet}
 use Rattle.demands.specs.Calls.{read, write, lent, Gives, silenced, CountsOf, BeatsOf, Owed}
 
@@ -40,17 +42,18 @@ pub data Wrong : Call → Type 0 where
   wrong-length : {c : Call} {l : List ℕ} {n : ℕ} → Owed c l n → length l ≢ n → Wrong c
   no-form : {t s n : ℕ} {out : List ℕ} → N t s ≤ n → Wrong (form t s n out)
   no-form-on-sheet : {t s n : ℕ} {sheet : List ℕ} {column : ℕ} → N t s ≤ n → Wrong (form-on-sheet t s n sheet column)
-  no-form-in-record : {src out : List ℕ} → kindIn src ≡ numbered → N (ups src) (downs src) ≤ valueOf (body src)
-      → Wrong (read src out)
+  no-form-in-record : {src out : List ℕ} {at : ℕ} → layoutIn src ≡ Layout.Numbered at
+      → N (ups src) (downs src) ≤ valueOf (body src) → Wrong (read src out)
   sheet-short : {t s n : ℕ} {sheet : List ℕ} {column : ℕ} → length sheet < column + t + s
       → Wrong (form-on-sheet t s n sheet column)
   places-few : {src out : List ℕ} → length out < mostBeats → Wrong (read src out)
   room-short : {kind t s : ℕ} {b out : List ℕ} → length out < length (recordOf kind t s b)
       → Wrong (write kind t s b out)
   size-tiny : {src out : List ℕ} → long src < 2 → Wrong (read src out)
-  size-numbered : {src out : List ℕ} → kindIn src ≡ numbered → long src ≢ 12 → Wrong (read src out)
-  size-beaten : {src out : List ℕ} → kindIn src ≡ beaten → long src ≢ 4 + bytesFor (ups src + downs src)
+  size-numbered : {src out : List ℕ} {at : ℕ} → layoutIn src ≡ Layout.Numbered at → long src ≢ at + numberBytes
       → Wrong (read src out)
+  size-beaten : {src out : List ℕ} {at : ℕ} → layoutIn src ≡ Layout.Beaten at
+      → long src ≢ at + bytesFor (ups src + downs src) → Wrong (read src out)
   cut-record : {src out : List ℕ} → cut src ≡ true → Wrong (read src out)
 
 -- demand 1: a call takes whatever it is given, and has one answer; what is wrong is refused by a number, and a refused

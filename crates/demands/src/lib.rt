@@ -4,10 +4,10 @@
 // [D1g]
 ghost use mathlib.Core.List.{[], _∷_};
 ghost use Rattle.refusal.specs.Answer.{verdict, value};
-ghost use Rattle.order.specs.Parts as said;
+ghost use Rattle.record.specs.Parts as said;
 ghost use Rattle.demands.specs.Calls as call;
 ghost use Rattle.demands.specs.Calls.{Gives};
-use order::Reading;
+use record::Reading;
 use refusal::Answer;
 use refusal::Verdict;
 
@@ -88,7 +88,7 @@ fn read(src: &[u8], out: &mut [u8]) -> Reading
     ensures { λ r. ⌜ Gives (call.read (now (src .entry)) (now (out .entry))) (said.verdict r) (said.t r ∷ said.s r
         ∷ said.number r ∷ said.consumed r ∷ []) (now (src .exit) ∷ now (out .exit) ∷ []) ⌝ }
 {
-    reading::read(src, out)
+    reader::read(src, out)
 }
 
 fn write(kind: u64, t: u64, s: u64, beats: &[u8], out: &mut [u8]) -> Answer

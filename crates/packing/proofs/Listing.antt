@@ -18,13 +18,13 @@ use Rattle.refusal.specs.Rows.{judge}
 use Rattle.triangle.specs.Count.{mostBeats}
 use Rattle.counts.specs.Counts.{Allowed}
 use Rattle.schedule.specs.Schedule.{Schedule}
-use Rattle.record.specs.Record.{long, kindIn, ups, downs, body, meant, meantNumber, readRows, eaten}
-use Rattle.order.specs.declared.Order.{Order}
-use Rattle.order.specs.declared.Reading.{Reading}
-use Rattle.reading.specs.Reading.{told, leaving, readAnswer, readLeft}
-use Rattle.order.specs.Parts as said
-use Rattle.reading.proofs.Verdicts.{told-verdict}
-use Rattle.reading.proofs.Meaning.{Means, read-means}
+use Rattle.record.specs.Record.{long, layoutIn, ups, downs, body, meant, meantNumber, readRows, eaten}
+use Rattle.record.specs.declared.reading.Order.{Order}
+use Rattle.record.specs.declared.reading.Reading.{Reading}
+use Rattle.reader.specs.Answers.{told, leftBy, readAnswer, readLeft}
+use Rattle.record.specs.Parts as said
+use Rattle.reader.proofs.Verdicts.{told-verdict}
+use Rattle.reader.proofs.Meaning.{Means, read-means}
 use Rattle.line.specs.Line.{acceptedLine, refusedLine}
 use Rattle.text.specs.Written.{Written}
 use Rattle.stream.specs.Stream.{verdictOn, passing, passed, ending, ends}
@@ -33,16 +33,16 @@ use Rattle.packing.specs.Listed.{text, lineOf}
 
 module _ (src room : List ℕ) (h : length room ≡ mostBeats) where
   abbrev number : ℕ
-  number = meantNumber (kindIn src) (ups src) (downs src) (body src)
+  number = meantNumber (layoutIn src) (ups src) (downs src) (body src)
 
   abbrev beats : List ℕ
-  beats = meant (kindIn src) (ups src) (downs src) (body src)
+  beats = meant (layoutIn src) (ups src) (downs src) (body src)
 
   answer-is : readAnswer src room ≡ told (ups src) (downs src) number (long src) (verdictOn src)
   answer-is = ap (λ (j : ℕ). told (ups src) (downs src) number (long src) (judge (readRows j src))) h
 
-  left-is : readLeft src room ≡ leaving (kindIn src) src (verdictOn src) room
-  left-is = ap (λ (j : ℕ). leaving (kindIn src) src (judge (readRows j src)) room) h
+  left-is : readLeft src room ≡ leftBy (layoutIn src) src (verdictOn src) room
+  left-is = ap (λ (j : ℕ). leftBy (layoutIn src) src (judge (readRows j src)) room) h
 
   verdict-of : {r : Reading} → readAnswer src room ≡ r → verdictOn src ≡ said.verdict r
   verdict-of e = sym (told-verdict (ups src) (downs src) number (long src) (verdictOn src)) ∙ ap said.verdict (sym answer-is ∙ e)
@@ -57,7 +57,7 @@ module _ (src room : List ℕ) (h : length room ≡ mostBeats) where
     pub schedule : Schedule (o .t) (o .s) beats
     pub in-room : take (o .t + o .s) (readLeft src room) ≡ beats
 
-  pub ordered : (o : Order) → readAnswer src room ≡ Reading.Order o → Ordered o
+  pub ordered : (o : Order) → readAnswer src room ≡ Reading.Accepted o → Ordered o
   ordered o e = record {
     taken = taken;
     few = rw (is-t, is-s) (means .allowed);
@@ -73,7 +73,7 @@ module _ (src room : List ℕ) (h : length room ≡ mostBeats) where
       taken : verdictOn src ≡ Verdict.Accepted
       taken = verdict-of e
 
-      same : told (ups src) (downs src) number (long src) Verdict.Accepted ≡ Reading.Order o
+      same : told (ups src) (downs src) number (long src) Verdict.Accepted ≡ Reading.Accepted o
       same = ap (told (ups src) (downs src) number (long src)) (sym taken) ∙ sym answer-is ∙ e
 
       is-t : o .t ≡ ups src
@@ -82,11 +82,11 @@ module _ (src room : List ℕ) (h : length room ≡ mostBeats) where
       is-s : o .s ≡ downs src
       is-s = ap said.s (sym same)
 
-      means : Means src (kindIn src)
+      means : Means src (layoutIn src)
       means = read-means src mostBeats taken
 
       there : readLeft src room ≡ beats ++ drop (ups src + downs src) room
-      there = left-is ∙ ap (λ (v : Verdict). leaving (kindIn src) src v room) taken
+      there = left-is ∙ ap (λ (v : Verdict). leftBy (layoutIn src) src v room) taken
 
   pub turned-down : (why : Refusal) (m : ℕ) → readAnswer src room ≡ Reading.Refused why m → (verdictOn src ≡ Verdict.Refused why) × (m ≡ eaten why (long src))
   turned-down why m e =
@@ -105,7 +105,7 @@ module _ (src out : List ℕ) where
   }
 
   pub list-accepted : (room : List ℕ) (h : length room ≡ mostBeats) (o : Order) → Ordered src room h o
-      → (u : List ℕ) → u ≡ meant (kindIn src) (ups src) (downs src) (body src)
+      → (u : List ℕ) → u ≡ meant (layoutIn src) (ups src) (downs src) (body src)
       → {bytes : ℕ} {after : List ℕ} → Written 0 (acceptedLine (o .t) (o .s) (o .number) u) out after bytes
       → Prints lineOf src out (record { consumed = o .consumed; bytes = bytes; last = false }) after
   list-accepted room h o f u e {bytes} {after} w =

@@ -19,7 +19,7 @@ line-own src more e = ap (text (src ++ more)) (verdict-alone src more e) ∙ by 
     by : (v : Verdict) → verdictOn src ≡ v → text (src ++ more) (verdictOn src) ≡ text src (verdictOn src)
     by Verdict.Accepted r =
         let same = parts-alone src more r in
-        ap (text (src ++ more)) r ∙ rw (same .0, same .1, same .2, same .3) (ap (text src) (sym r))
+        ap (text (src ++ more)) r ∙ rw (same .1, same .2, same .3, same .0) (ap (text src) (sym r))
     by (Verdict.Refused why) r = ap (text (src ++ more)) r ∙ ap (text src) (sym r)
 
 pub pieces-list : {room : ℕ} {input : List ℕ} {texts : List (List ℕ)} → Listing lineOf widest room false [] input texts → joined texts ≡ packingList input

@@ -13,7 +13,7 @@ use Prim.Native.Nat.{ℕ, _+_, _≤_}
 use lib.ListN.{length}
 use Rattle.refusal.specs.declared.Verdict.{Verdict}
 use Rattle.triangle.specs.Count.{mostBeats}
-use Rattle.record.specs.Record.{longest, kindIn, ups, downs, body, meant, meantNumber}
+use Rattle.record.specs.Record.{longest, layoutIn, ups, downs, body, meant, meantNumber}
 use Rattle.line.specs.Line.{acceptedLine, refusedLine}
 use Rattle.stream.specs.declared.Stream.{Stream}
 use Rattle.stream.specs.Stream.{verdictOn, listOf}
@@ -22,8 +22,8 @@ use Rattle.stream.specs.Pass.{Turns}
 
 abbrev pub text : List ℕ → Verdict → List ℕ
 text src Verdict.Accepted =
-    acceptedLine (ups src) (downs src) (meantNumber (kindIn src) (ups src) (downs src) (body src))
-    (meant (kindIn src) (ups src) (downs src) (body src))
+    acceptedLine (ups src) (downs src) (meantNumber (layoutIn src) (ups src) (downs src) (body src))
+    (meant (layoutIn src) (ups src) (downs src) (body src))
 text src (Verdict.Refused why) = refusedLine why
 
 abbrev pub lineOf : List ℕ → List ℕ

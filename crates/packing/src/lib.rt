@@ -10,7 +10,7 @@ ghost use Rattle.lookup.specs.Lent.{Counts};
 ghost use Rattle.stream.specs.Exchange.{Inside};
 ghost use Rattle.stream.specs.Pass.{Prints, Passes};
 ghost use Rattle.packing.specs.Listed.{lineOf, widest, Buffers, Turned};
-use order::Reading;
+use record::Reading;
 use stream::Front;
 use stream::Pass;
 use stream::Printed;
@@ -26,9 +26,9 @@ fn list(rows: &[[u64; SIDE]], src: &[u8], room: &mut [u8], out: &mut [u8]) -> Pr
     requires { ⌜ Counts (now rows) × (length (now room) ≡ mostBeats) × (widest ≤ length (now out)) ⌝ }
     ensures { λ r. ⌜ Prints lineOf (now (src .entry)) (now (out .entry)) r (now (out .exit)) ⌝ }
 {
-    let reading = reading::read_by(rows, src, room);
+    let reading = reader::read_by(rows, src, room);
     match reading {
-        Reading::Order(order) => {
+        Reading::Accepted(order) => {
             let n = (order.t + order.s) as usize;
             let bytes = line::accepted(order.t, order.s, order.number, &room[..n], out);
             Printed {

@@ -1,9 +1,9 @@
 -- The definitions of specs/ on small inputs, by computing them: the records of the manual and their neighbours; for
 -- each test one that fits and one refused for each part. Assumes nothing.
 use mathlib.Core.Bool.{true, false}
-use mathlib.Core.List.{[], _∷_}
+use mathlib.Core.List.{List, [], _∷_}
 use mathlib.Core.Path.{_≡_, refl}
-use Prim.Native.Nat.{_+_}
+use Prim.Native.Nat.{ℕ, _+_}
 use lib.ListN.{replicate}
 use Rattle.bounded.specs.Bounded.{every, firstFrom}
 use Rattle.refusal.specs.declared.Refusal.the-variants.{WrongSize, UnknownKind, CutShort, NoRoom, EmptyHand, WrongTakeUps, NoSuchNumber}
@@ -14,7 +14,10 @@ use Rattle.schedule.specs.Schedule.{ones, zeros, isSchedule}
 use Rattle.circle.specs.Step.{shift, found, has01, movesNext, next}
 use Rattle.circle.specs.Walk.{steps, changed}
 use Rattle.record.specs.Bytes.{lowFirst, valueOf, spell, tabulate, bytesFor, packed, beatAt, unpacked, unused, turned}
-use Rattle.record.specs.Record.{kindOf, isUnknown, numbered, beaten, unknown, payload, recordOf, long, kindIn, ups, downs, body, cut, misfit, spoiled, meant, meantNumber, readRows, eaten}
+use Rattle.record.specs.declared.layout.Layout.{Layout}
+use Rattle.record.specs.Layout.{layoutOf, countsAt, isUnknown}
+use Rattle.record.specs.Record.{payload, recordOf, long, layoutIn, ups, downs, body, upsAt, downsAt, bodyAt, cut, misfit, spoiled}
+use Rattle.record.specs.Record.{meant, meantNumber, readRows, eaten}
 
 -- 12 and 1,020 as two bytes, and back
 low-12 : lowFirst 2 12 ≡ 12 ∷ 0 ∷ []
@@ -98,27 +101,33 @@ none : bytesFor 0 ≡ 0
 none = refl
 
 -- the kinds
-kind-1 : kindOf 1 ≡ numbered
+kind-1 : layoutOf 1 ≡ Layout.Numbered 4
 kind-1 = refl
 
-kind-2 : kindOf 2 ≡ beaten
+kind-2 : layoutOf 2 ≡ Layout.Beaten 4
 kind-2 = refl
 
-kind-0 : kindOf 0 ≡ unknown
+kind-0 : layoutOf 0 ≡ Layout.Unknown
 kind-0 = refl
 
-known-2 : isUnknown beaten ≡ false
+counts-at-4 : countsAt (layoutOf 2) ≡ 4
+counts-at-4 = refl
+
+counts-at-8 : countsAt (Layout.Numbered 8) ≡ 8
+counts-at-8 = refl
+
+known-2 : isUnknown (layoutOf 2) ≡ false
 known-2 = refl
 
-unknown-3 : isUnknown (kindOf 3) ≡ true
+unknown-3 : isUnknown (layoutOf 3) ≡ true
 unknown-3 = refl
 
 -- 10 of 1, 1, by its number 0 and by its beats
-payload-1 : payload numbered 1 1 (1 ∷ 0 ∷ []) ≡ 0 ∷ 0 ∷ 0 ∷ 0 ∷ 0 ∷ 0 ∷ 0 ∷ 0 ∷ []
+payload-1 : payload (layoutOf 1) 1 1 (1 ∷ 0 ∷ []) ≡ 0 ∷ 0 ∷ 0 ∷ 0 ∷ 0 ∷ 0 ∷ 0 ∷ 0 ∷ []
 unfolding lowFirst N firstFrom steps changed
 payload-1 = refl
 
-payload-2 : payload beaten 1 1 (1 ∷ 0 ∷ []) ≡ 128 ∷ []
+payload-2 : payload (layoutOf 2) 1 1 (1 ∷ 0 ∷ []) ≡ 128 ∷ []
 unfolding tabulate spell
 payload-2 = refl
 
@@ -139,24 +148,28 @@ pub long-5 : long (5 ∷ 0 ∷ 2 ∷ 0 ∷ 3 ∷ 2 ∷ 168 ∷ []) ≡ 5
 unfolding valueOf
 long-5 = refl
 
-kind-in-1 : kindIn (12 ∷ 0 ∷ 1 ∷ 0 ∷ 3 ∷ 2 ∷ 2 ∷ 0 ∷ 0 ∷ 0 ∷ 0 ∷ 0 ∷ 0 ∷ 0 ∷ []) ≡ numbered
+kind-in-1 : layoutIn (12 ∷ 0 ∷ 1 ∷ 0 ∷ 3 ∷ 2 ∷ 2 ∷ 0 ∷ 0 ∷ 0 ∷ 0 ∷ 0 ∷ 0 ∷ 0 ∷ []) ≡ Layout.Numbered 4
 unfolding valueOf
 kind-in-1 = refl
 
-kind-in-2 : kindIn (5 ∷ 0 ∷ 2 ∷ 0 ∷ 3 ∷ 2 ∷ 168 ∷ []) ≡ beaten
+kind-in-2 : layoutIn (5 ∷ 0 ∷ 2 ∷ 0 ∷ 3 ∷ 2 ∷ 168 ∷ []) ≡ Layout.Beaten 4
 unfolding valueOf
 kind-in-2 = refl
 
 ups-3 : ups (5 ∷ 0 ∷ 2 ∷ 0 ∷ 3 ∷ 2 ∷ 168 ∷ []) ≡ 3
+unfolding valueOf
 ups-3 = refl
 
 ups-1 : ups (5 ∷ 0 ∷ 2 ∷ 0 ∷ 1 ∷ 0 ∷ 128 ∷ []) ≡ 1
+unfolding valueOf
 ups-1 = refl
 
 downs-2 : downs (5 ∷ 0 ∷ 2 ∷ 0 ∷ 3 ∷ 2 ∷ 168 ∷ []) ≡ 2
+unfolding valueOf
 downs-2 = refl
 
 downs-0 : downs (5 ∷ 0 ∷ 2 ∷ 0 ∷ 1 ∷ 0 ∷ 128 ∷ []) ≡ 0
+unfolding valueOf
 downs-0 = refl
 
 body-1 : body (12 ∷ 0 ∷ 1 ∷ 0 ∷ 3 ∷ 2 ∷ 2 ∷ 0 ∷ 0 ∷ 0 ∷ 0 ∷ 0 ∷ 0 ∷ 0 ∷ []) ≡ 2 ∷ 0 ∷ 0 ∷ 0 ∷ 0 ∷ 0 ∷ 0 ∷ 0 ∷ []
@@ -166,6 +179,20 @@ body-1 = refl
 body-2 : body (5 ∷ 0 ∷ 2 ∷ 0 ∷ 3 ∷ 2 ∷ 168 ∷ []) ≡ 168 ∷ []
 unfolding valueOf
 body-2 = refl
+
+-- with four bytes more before the counts
+abbrev later : List ℕ
+later = 9 ∷ 0 ∷ 6 ∷ 0 ∷ 7 ∷ 7 ∷ 7 ∷ 7 ∷ 1 ∷ 0 ∷ 128 ∷ []
+
+ups-at-8 : upsAt 8 later ≡ 1
+ups-at-8 = refl
+
+downs-at-8 : downsAt 8 later ≡ 0
+downs-at-8 = refl
+
+body-at-8 : bodyAt 8 later ≡ 128 ∷ []
+unfolding valueOf
+body-at-8 = refl
 
 -- a whole record; no length; a byte too few; the longest, and a byte more
 not-cut : cut (5 ∷ 0 ∷ 2 ∷ 0 ∷ 3 ∷ 2 ∷ 168 ∷ []) ≡ false
@@ -190,42 +217,42 @@ unfolding valueOf
 cut-1021 = refl
 
 -- L for each kind
-fits-12 : misfit numbered 12 ≡ false
+fits-12 : misfit (layoutOf 1) 12 ≡ false
 fits-12 = refl
 
-misfit-13 : misfit numbered 13 ≡ true
+misfit-13 : misfit (layoutOf 1) 13 ≡ true
 misfit-13 = refl
 
-fits-4 : misfit beaten 4 ≡ false
+fits-4 : misfit (layoutOf 2) 4 ≡ false
 fits-4 = refl
 
-misfit-3 : misfit beaten 3 ≡ true
+misfit-3 : misfit (layoutOf 2) 3 ≡ true
 misfit-3 = refl
 
 -- five beats in a byte; a byte too many; an unused bit set
-unspoiled : spoiled 5 5 (168 ∷ []) ≡ false
+unspoiled : spoiled 5 (168 ∷ []) ≡ false
 unspoiled = refl
 
-spoiled-length : spoiled 5 6 (168 ∷ 0 ∷ []) ≡ true
+spoiled-length : spoiled 5 (168 ∷ 0 ∷ []) ≡ true
 spoiled-length = refl
 
-spoiled-bit : spoiled 5 5 (169 ∷ []) ≡ true
+spoiled-bit : spoiled 5 (169 ∷ []) ≡ true
 spoiled-bit = refl
 
 -- number 2 of 3, 2 is 11010, and 10101 has number 3
-meant-1 : meant numbered 3 2 (2 ∷ 0 ∷ 0 ∷ 0 ∷ 0 ∷ 0 ∷ 0 ∷ 0 ∷ []) ≡ 1 ∷ 1 ∷ 0 ∷ 1 ∷ 0 ∷ []
+meant-1 : meant (layoutOf 1) 3 2 (2 ∷ 0 ∷ 0 ∷ 0 ∷ 0 ∷ 0 ∷ 0 ∷ 0 ∷ []) ≡ 1 ∷ 1 ∷ 0 ∷ 1 ∷ 0 ∷ []
 unfolding valueOf every firstFrom ones zeros isSchedule shift found has01 movesNext next steps
 meant-1 = refl
 
-meant-2 : meant beaten 3 2 (168 ∷ []) ≡ 1 ∷ 0 ∷ 1 ∷ 0 ∷ 1 ∷ []
+meant-2 : meant (layoutOf 2) 3 2 (168 ∷ []) ≡ 1 ∷ 0 ∷ 1 ∷ 0 ∷ 1 ∷ []
 unfolding tabulate
 meant-2 = refl
 
-meant-number-1 : meantNumber numbered 3 2 (2 ∷ 0 ∷ 0 ∷ 0 ∷ 0 ∷ 0 ∷ 0 ∷ 0 ∷ []) ≡ 2
+meant-number-1 : meantNumber (layoutOf 1) 3 2 (2 ∷ 0 ∷ 0 ∷ 0 ∷ 0 ∷ 0 ∷ 0 ∷ 0 ∷ []) ≡ 2
 unfolding valueOf
 meant-number-1 = refl
 
-meant-number-2 : meantNumber beaten 3 2 (168 ∷ []) ≡ 3
+meant-number-2 : meantNumber (layoutOf 2) 3 2 (168 ∷ []) ≡ 3
 unfolding tabulate N every firstFrom ones zeros isSchedule shift found has01 movesNext next steps changed
 meant-number-2 = refl
 

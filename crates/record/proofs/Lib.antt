@@ -1,4 +1,5 @@
+pub mod Cases
+pub mod Layouts
 pub mod Numerals
 pub mod Packing
 pub mod Writing
-pub mod Cases

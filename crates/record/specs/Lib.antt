@@ -1,2 +1,4 @@
 pub mod Bytes
+pub mod Layout
+pub mod Parts
 pub mod Record

@@ -1,4 +1,4 @@
-// Numbers as bytes, the low one first, for writing here and for the crate `reading`. The contracts cite
+// Numbers as bytes, the low one first, for writing here and for the crate `reader`. The contracts cite
 // specs/Bytes. [P1]
 ghost use mathlib.Core.Path.{_≡_};
 ghost use Prim.Native.Nat.{_≤_};

@@ -1,4 +1,4 @@
-// Beats eight to a byte, the first in the highest bit, for writing here and for the crate `reading`. The
+// Beats eight to a byte, the first in the highest bit, for writing here and for the crate `reader`. The
 // contracts cite specs/Bytes. [P1]
 ghost use mathlib.Core.Path.{_≡_};
 ghost use Prim.Native.Nat.{ℕ, _≤_, _<_, _*_};

@@ -1,10 +1,13 @@
-// Writing a record of each kind. The contracts cite specs/Record.
+// Writing a record of each layout. The contracts cite specs/Record. The counts of every kind stand at byte 4, right
+// after L and the kind, and so nothing else is to be written before them.
 ghost use mathlib.Core.List.{_∷_, _++_};
 ghost use mathlib.Core.Path.{_≡_};
 ghost use Prim.Native.Nat.{_≤_, _<_};
 ghost use lib.ListN.{length, drop};
+ghost use Rattle.record.specs.declared.layout.Layout as of;
 ghost use Rattle.record.specs.Bytes.{lowFirst};
-ghost use Rattle.record.specs.Record.{kindAnswer, kindLeft};
+ghost use Rattle.record.specs.Record.{recordIn, knownAnswer, knownLeft};
+use crate::layout;
 use crate::little;
 use crate::pack;
 use refusal::Answer;
@@ -12,54 +15,62 @@ use refusal::Refusal;
 use refusal::Verdict;
 
 // The two bytes of L, the two of the kind, and the counts.
-fn head(long: u64, kind: u64, t: u64, s: u64, out: &mut [u8])
-    requires { ⌜ (6 ≤ length (now out)) × (t < 256) × (s < 256) ⌝ }
+fn head(long: u64, kind: u64, at: usize, t: u64, s: u64, out: &mut [u8])
+    requires { ⌜ (at ≡ 4) × (6 ≤ length (now out)) × (t < 256) × (s < 256) ⌝ }
     ensures { λ r. ⌜ now (out .exit) ≡ lowFirst 2 long ++ (lowFirst 2 kind ++ (t ∷ (s ∷ drop 6 (now (out .entry))))) ⌝ }
 {
     out[0] = (long % 256) as u8;
     out[1] = (long / 256 % 256) as u8;
     out[2] = (kind % 256) as u8;
     out[3] = (kind / 256 % 256) as u8;
-    out[4] = t as u8;
-    out[5] = s as u8;
+    out[at] = t as u8;
+    out[at + 1] = s as u8;
 }
 
-// A record of kind 1.
-pub fn numbered(t: u64, s: u64, beats: &[u8], out: &mut [u8]) -> Answer
-    ensures { λ r. ⌜ r ≡ kindAnswer 1 t s (now (beats .entry)) (now (out .entry)) ⌝ }
-    ensures { λ _. ⌜ now (out .exit) ≡ kindLeft 1 t s (now (beats .entry)) (now (out .entry)) ⌝ }
+// A record that holds the number of the form.
+pub fn numbered(kind: u64, at: usize, t: u64, s: u64, beats: &[u8], out: &mut [u8]) -> Answer
+    requires { ⌜ at ≡ 4 ⌝ }
+    ensures { λ r. ⌜ r ≡ knownAnswer t s (now (beats .entry))
+        (recordIn (of.Layout.Numbered at) kind t s (now (beats .entry))) (now (out .entry)) ⌝ }
+    ensures { λ _. ⌜ now (out .exit) ≡ knownLeft t s (now (beats .entry))
+        (recordIn (of.Layout.Numbered at) kind t s (now (beats .entry))) (now (out .entry)) ⌝ }
 {
-    let numbered = number::number(t, s, beats);
-    match numbered {
+    let answer = number::number(t, s, beats);
+    match answer {
         Answer::Refused(why) => Answer::Refused(why),
         Answer::Value(number) => {
-            if out.len() < 14 {
+            let from = at + 2;
+            let end = from + layout::NUMBER;
+            if out.len() < end {
                 return Answer::Refused(Refusal::NoRoom);
             }
-            head(12, 1, t, s, out);
-            little::spell(number, &mut out[6..14]);
-            Answer::Value(14)
+            head(end as u64 - 2, kind, at, t, s, out);
+            little::spell(number, &mut out[from..end]);
+            Answer::Value(end as u64)
         }
     }
 }
 
-// A record of kind 2.
-pub fn beaten(t: u64, s: u64, beats: &[u8], out: &mut [u8]) -> Answer
-    ensures { λ r. ⌜ r ≡ kindAnswer 2 t s (now (beats .entry)) (now (out .entry)) ⌝ }
-    ensures { λ _. ⌜ now (out .exit) ≡ kindLeft 2 t s (now (beats .entry)) (now (out .entry)) ⌝ }
+// A record that holds the packed beats.
+pub fn beaten(kind: u64, at: usize, t: u64, s: u64, beats: &[u8], out: &mut [u8]) -> Answer
+    requires { ⌜ at ≡ 4 ⌝ }
+    ensures { λ r. ⌜ r ≡ knownAnswer t s (now (beats .entry))
+        (recordIn (of.Layout.Beaten at) kind t s (now (beats .entry))) (now (out .entry)) ⌝ }
+    ensures { λ _. ⌜ now (out .exit) ≡ knownLeft t s (now (beats .entry))
+        (recordIn (of.Layout.Beaten at) kind t s (now (beats .entry))) (now (out .entry)) ⌝ }
 {
     let verdict = schedule::check(t, s, beats);
     match verdict {
         Verdict::Refused(why) => Answer::Refused(why),
         Verdict::Accepted => {
-            let packed = pack::bytes_for(beats.len());
-            let end = 6 + packed;
-            if out.len() < end {
+            let from = at + 2;
+            let past = from + pack::bytes_for(beats.len());
+            if out.len() < past {
                 return Answer::Refused(Refusal::NoRoom);
             }
-            head(4 + packed as u64, 2, t, s, out);
-            pack::pack(beats, &mut out[6..end]);
-            Answer::Value(end as u64)
+            head(past as u64 - 2, kind, at, t, s, out);
+            pack::pack(beats, &mut out[from..past]);
+            Answer::Value(past as u64)
         }
     }
 }

@@ -1,5 +1,5 @@
 // The refusals of the manual, "Refusal numbers", one named case for each row of its table, and two kinds
-// of answer that can be one; the third, of reading a record, is `Reading` of the crate `order`. Every function
+// of answer that can be one; the third, of reading a record, is `Reading` of the crate `record`. Every function
 // of the library that can refuse answers one of the three, or to a C host its number, and passes a refusal
 // on as it got it. The contracts cite specs/Refusal and specs/Answer. [P1] [P13]
 ghost use mathlib.Core.Path.{_≡_};

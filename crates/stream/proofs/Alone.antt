@@ -24,12 +24,15 @@ use Rattle.refusal.specs.Rows.{judge}
 use Rattle.triangle.specs.Count.{mostBeats}
 use Rattle.counts.specs.Counts.{countRows}
 use Rattle.record.specs.Bytes.{valueOf}
-use Rattle.record.specs.Record.{Kind, numbered, beaten, unknown, kindOf, isUnknown, long, longest, kindIn, ups, downs, body, bodyRows, cut, kindRows, eaten}
-use Rattle.reading.proofs.Heads.{cut-above, cut-rest, whole-long}
-use Rattle.reading.proofs.Verdicts.{given}
-use Rattle.reading.proofs.Answering.{numbered-long, numbered-fits, beaten-long, beaten-fits, read-cut, read-tiny, read-unknown, read-kind}
-use Rattle.reading.proofs.Meaning.{numbered-facts, beaten-facts}
-use Rattle.reading.proofs.Parts.{read-facts}
+use Rattle.record.specs.declared.layout.Layout.{Layout}
+use Rattle.record.specs.Layout.{layoutOf, countsAt, isUnknown}
+use Rattle.record.specs.Record.{long, longest, layoutIn, upsAt, downsAt, bodyAt, ups, downs, body}
+use Rattle.record.specs.Record.{packedRows, cut, kindRows, eaten}
+use Rattle.reader.proofs.Heads.{cut-above, cut-rest, whole-long}
+use Rattle.reader.proofs.Verdicts.{given}
+use Rattle.reader.proofs.Answering.{numbered-long, numbered-fits, beaten-long, beaten-fits, read-cut, read-tiny, read-unknown, read-kind}
+use Rattle.reader.proofs.Meaning.{kind-reaches}
+use Rattle.reader.proofs.Parts.{read-facts}
 use Rattle.stream.specs.Stream.{verdictOn, passing, passed, ending, ends, settled}
 use Rattle.stream.proofs.Fronts.{settled-whole}
 
@@ -37,12 +40,15 @@ use Rattle.stream.proofs.Fronts.{settled-whole}
 abbrev Goes : Refusal → Type 0
 Goes why = ((l : ℕ) → eaten why l ≡ 2 + l) × (eqb (refusalNumber why) 9 ≡ false)
 
-kind-goes : (k : Kind) (src : List ℕ) → isUnknown k ≡ false → {why : Refusal} → judge (kindRows k src) ≡ Verdict.Refused why → Goes why
-kind-goes numbered src u e = given Goes (kindRows numbered src) ((λ l. refl, refl), ((λ l. refl, refl), ((λ l. refl, refl), ((λ l. refl, refl), tt)))) e
-kind-goes beaten src u e =
-    given Goes (kindRows beaten src)
+kind-goes : (k : Layout) (src : List ℕ) → isUnknown k ≡ false → {why : Refusal}
+    → judge (kindRows k src) ≡ Verdict.Refused why → Goes why
+kind-goes (Layout.Numbered at) src u e =
+    given Goes (kindRows (Layout.Numbered at) src)
+    ((λ l. refl, refl), ((λ l. refl, refl), ((λ l. refl, refl), ((λ l. refl, refl), tt)))) e
+kind-goes (Layout.Beaten at) src u e =
+    given Goes (kindRows (Layout.Beaten at) src)
     ((λ l. refl, refl), ((λ l. refl, refl), ((λ l. refl, refl), ((λ l. refl, refl), ((λ l. refl, refl), ((λ l. refl, refl), tt)))))) e
-kind-goes unknown src u e = absurd (true≢false u)
+kind-goes Layout.Unknown src u e = absurd (true≢false u)
 
 module _ (src : List ℕ) where
   pub cut-ends : cut src ≡ true → (ends src ≡ true) × (passed src ≡ 0)
@@ -50,14 +56,14 @@ module _ (src : List ℕ) where
 
   module _ (e : cut src ≡ false) where
     refused-goes : {why : Refusal} → verdictOn src ≡ Verdict.Refused why → Goes why
-    refused-goes {why} r = elim (decLt (long src) 2) [ yes l ↦ this (λ m. refl, refl) (read-tiny mostBeats src (omega arith) e l) | no l ↦ by (omega arith) (isUnknown (kindIn src)) refl ]
+    refused-goes {why} r = elim (decLt (long src) 2) [ yes l ↦ this (λ m. refl, refl) (read-tiny mostBeats src (omega arith) e l) | no l ↦ by (omega arith) (isUnknown (layoutIn src)) refl ]
       where
         this : {first : Refusal} → Goes first → verdictOn src ≡ Verdict.Refused first → Goes why
         this {first} goes q = let same : first ≡ why = cc in subst Goes same goes
 
-        by : 2 ≤ long src → (b : Bool) → isUnknown (kindIn src) ≡ b → Goes why
+        by : 2 ≤ long src → (b : Bool) → isUnknown (layoutIn src) ≡ b → Goes why
         by l true u = this (λ m. refl, refl) (read-unknown mostBeats src (omega arith) e l u)
-        by l false u = kind-goes (kindIn src) src u (sym (read-kind mostBeats src (omega arith) e l u) ∙ r)
+        by l false u = kind-goes (layoutIn src) src u (sym (read-kind mostBeats src (omega arith) e l u) ∙ r)
 
     pub whole-goes : (ends src ≡ false) × (passed src ≡ 2 + long src)
     whole-goes = by (verdictOn src) refl
@@ -77,23 +83,24 @@ module _ (src more : List ℕ) where
   long-same : 2 ≤ length src → long both ≡ long src
   long-same h = ap valueOf (take-append-le 2 src more h)
 
-  kind-same : 4 ≤ length src → kindIn both ≡ kindIn src
+  kind-same : 4 ≤ length src → layoutIn both ≡ layoutIn src
   kind-same h =
-      ap (λ (l : List ℕ). kindOf (valueOf (take 2 l))) (drop-append-le 2 src more (omega arith))
-      ∙ ap (λ (l : List ℕ). kindOf (valueOf l)) (take-append-le 2 (drop 2 src) more (omega (arith, length-drop 2 src)))
+      ap (λ (l : List ℕ). layoutOf (valueOf (take 2 l))) (drop-append-le 2 src more (omega arith))
+      ∙ ap (λ (l : List ℕ). layoutOf (valueOf l)) (take-append-le 2 (drop 2 src) more (omega (arith, length-drop 2 src)))
 
-  module _ (four : 4 ≤ long src) (whole : 2 + long src ≤ length src) where
-    ups-same : ups both ≡ ups src
-    ups-same = List·getD-append src more 0 4 (omega arith)
+  -- counts at a byte that L reaches past
+  module _ (at : ℕ) (inside : at ≤ long src) (whole : 2 + long src ≤ length src) where
+    ups-same : upsAt at both ≡ upsAt at src
+    ups-same = List·getD-append src more 0 at (omega arith)
 
-    downs-same : downs both ≡ downs src
-    downs-same = List·getD-append src more 0 5 (omega arith)
+    downs-same : downsAt at both ≡ downsAt at src
+    downs-same = List·getD-append src more 0 (at + 1) (omega arith)
 
-    body-same : body both ≡ body src
+    body-same : bodyAt at both ≡ bodyAt at src
     body-same =
-        ap (λ (j : ℕ). take (j - 4) (drop 6 both)) (long-same (omega arith))
-        ∙ ap (take (long src - 4)) (drop-append-le 6 src more (omega arith))
-        ∙ take-append-le (long src - 4) (drop 6 src) more (omega (arith, length-drop 6 src))
+        ap (λ (j : ℕ). take (j - at) (drop (at + 2) both)) (long-same (omega arith))
+        ∙ ap (take (long src - at)) (drop-append-le (at + 2) src more (omega arith))
+        ∙ take-append-le (long src - at) (drop (at + 2) src) more (omega (arith, length-drop (at + 2) src))
 
   module _ (here : cut src ≡ false) where
     whole : (long src ≤ longest) × (2 + long src ≤ length src)
@@ -107,37 +114,43 @@ module _ (src more : List ℕ) where
         sym (cut-rest both (omega (arith, whole, longer)) (omega (arith, whole, same-long)))
         ∙ le-ltb (length both) (2 + long both) (omega (arith, whole, longer, same-long))
 
-    rows-alone : (k : Kind) → isUnknown k ≡ false → judge (kindRows k both) ≡ judge (kindRows k src)
-    rows-alone numbered u = elim (ℕ-discrete (long src) 12) [
-      | yes e ↦ numbered-fits both (same-long ∙ e)
-          ∙ ap₂ (λ (t s : ℕ). judge (numberRows t s (valueOf (body both)))) (ups-same (omega (arith, e)) (whole .1)) (downs-same (omega (arith, e)) (whole .1))
-          ∙ ap (λ (l : List ℕ). judge (numberRows (ups src) (downs src) (valueOf l))) (body-same (omega (arith, e)) (whole .1))
-          ∙ sym (numbered-fits src e)
-      | no n ↦ numbered-long both (λ e. n (sym same-long ∙ e)) ∙ sym (numbered-long src n)
+    rows-alone : (k : Layout) → isUnknown k ≡ false → judge (kindRows k both) ≡ judge (kindRows k src)
+    rows-alone (Layout.Numbered at) u = elim (ℕ-discrete (long src) (at + 8)) [
+      | yes e ↦
+          let inside : at ≤ long src = omega (arith, e) in
+          numbered-fits at both (same-long ∙ e)
+          ∙ ap₂ (λ (t s : ℕ). judge (numberRows t s (valueOf (bodyAt at both)))) (ups-same at inside (whole .1)) (downs-same at inside (whole .1))
+          ∙ ap (λ (l : List ℕ). judge (numberRows (upsAt at src) (downsAt at src) (valueOf l))) (body-same at inside (whole .1))
+          ∙ sym (numbered-fits at src e)
+      | no n ↦ numbered-long at both (λ e. n (sym same-long ∙ e)) ∙ sym (numbered-long at src n)
     ]
-    rows-alone beaten u = elim (decLt (long src) 4) [
-      | yes l ↦ beaten-long both (omega (arith, l, same-long)) ∙ sym (beaten-long src l)
-      | no l ↦ beaten-fits both (omega (arith, l, same-long))
-          ∙ ap₂ (λ (t s : ℕ). judge (countRows t s ++ bodyRows beaten t s (long both) (body both))) (ups-same (omega (arith, l)) (whole .1)) (downs-same (omega (arith, l)) (whole .1))
-          ∙ ap₂ (λ (m : ℕ) (p : List ℕ). judge (countRows (ups src) (downs src) ++ bodyRows beaten (ups src) (downs src) m p)) same-long (body-same (omega (arith, l)) (whole .1))
-          ∙ sym (beaten-fits src (omega (arith, l)))
+    rows-alone (Layout.Beaten at) u = elim (decLt (long src) at) [
+      | yes l ↦ beaten-long at both (omega (arith, l, same-long)) ∙ sym (beaten-long at src l)
+      | no l ↦
+          let inside : at ≤ long src = omega (arith, l) in
+          let t = upsAt at src in
+          let s = downsAt at src in
+          beaten-fits at both (omega (arith, l, same-long))
+          ∙ ap₂ (λ (i j : ℕ). judge (countRows i j ++ packedRows i j (bodyAt at both))) (ups-same at inside (whole .1)) (downs-same at inside (whole .1))
+          ∙ ap (λ (p : List ℕ). judge (countRows t s ++ packedRows t s p)) (body-same at inside (whole .1))
+          ∙ sym (beaten-fits at src inside)
     ]
-    rows-alone unknown u = absurd (true≢false u)
+    rows-alone Layout.Unknown u = absurd (true≢false u)
 
     whole-alone : verdictOn both ≡ verdictOn src
     whole-alone = elim (decLt (long src) 2) [
       | yes l ↦ read-tiny mostBeats both (omega arith) both-whole (omega (arith, l, same-long)) ∙ sym (read-tiny mostBeats src (omega arith) here l)
-      | no l ↦ by (omega arith) (isUnknown (kindIn src)) refl
+      | no l ↦ by (omega arith) (isUnknown (layoutIn src)) refl
     ]
       where
-        by : 2 ≤ long src → (b : Bool) → isUnknown (kindIn src) ≡ b → verdictOn both ≡ verdictOn src
+        by : 2 ≤ long src → (b : Bool) → isUnknown (layoutIn src) ≡ b → verdictOn both ≡ verdictOn src
         by l true u =
             read-unknown mostBeats both (omega arith) both-whole (omega (arith, same-long)) (ap isUnknown (kind-same (omega (arith, whole))) ∙ u)
             ∙ sym (read-unknown mostBeats src (omega arith) here l u)
         by l false u =
             read-kind mostBeats both (omega arith) both-whole (omega (arith, same-long)) (ap isUnknown (kind-same (omega (arith, whole))) ∙ u)
-            ∙ ap (λ (k : Kind). judge (kindRows k both)) (kind-same (omega (arith, whole)))
-            ∙ rows-alone (kindIn src) u
+            ∙ ap (λ (k : Layout). judge (kindRows k both)) (kind-same (omega (arith, whole)))
+            ∙ rows-alone (layoutIn src) u
             ∙ sym (read-kind mostBeats src (omega arith) here l u)
 
   module _ (e : settled src ≡ true) where
@@ -162,16 +175,16 @@ module _ (src more : List ℕ) where
         by Verdict.Accepted = ap (λ (l : ℕ). 2 + l) (long-same (settled-whole src e .0))
         by (Verdict.Refused why) = ap (eaten why) (long-same (settled-whole src e .0))
 
-  pub parts-alone : verdictOn src ≡ Verdict.Accepted → (kindIn both ≡ kindIn src) × (ups both ≡ ups src) × (downs both ≡ downs src) × (body both ≡ body src)
-  parts-alone r = (kind-same (omega (arith, four, reaches)), ups-same four reaches, downs-same four reaches, body-same four reaches)
-    where
-      reaches : 2 + long src ≤ length src
-      reaches = whole-long src (read-facts mostBeats src r .1) .1
-
-      by : (k : Kind) → kindIn src ≡ k → 4 ≤ long src
-      by numbered f = omega (arith, numbered-facts src (ap (λ (j : Kind). judge (kindRows j src)) (sym f) ∙ read-facts mostBeats src r .4) .0)
-      by beaten f = beaten-facts src (ap (λ (j : Kind). judge (kindRows j src)) (sym f) ∙ read-facts mostBeats src r .4) .four
-      by unknown f = absurd (true≢false (ap isUnknown (sym f) ∙ read-facts mostBeats src r .3))
-
-      four : 4 ≤ long src
-      four = by (kindIn src) refl
+  pub parts-alone : verdictOn src ≡ Verdict.Accepted
+      → (layoutIn both ≡ layoutIn src) × (ups both ≡ ups src) × (downs both ≡ downs src) × (body both ≡ body src)
+  parts-alone r =
+      let facts = read-facts mostBeats src r in
+      let reaches = whole-long src (facts .1) .1 in
+      let inside = kind-reaches src (layoutIn src) (facts .3) (facts .4) in
+      let at = countsAt (layoutIn src) in
+      let same = kind-same (omega (arith, facts .2, reaches)) in (
+        same,
+        ap (λ (k : Layout). upsAt (countsAt k) both) same ∙ ups-same at inside reaches,
+        ap (λ (k : Layout). downsAt (countsAt k) both) same ∙ downs-same at inside reaches,
+        ap (λ (k : Layout). bodyAt (countsAt k) both) same ∙ body-same at inside reaches,
+      )

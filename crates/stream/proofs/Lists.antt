@@ -12,7 +12,7 @@ use Prim.Native.Nat.{ℕ, zero, suc, _+_, _≤_, _<_}
 use native.Mathlib.Omega.{arith}
 use lib.ListN.{length, drop, length-drop}
 use Rattle.record.specs.Record.{cut}
-use Rattle.reading.proofs.Heads.{whole-long}
+use Rattle.reader.proofs.Heads.{whole-long}
 use Rattle.stream.specs.Stream.{passed, ends, listFrom, listOf}
 use Rattle.stream.proofs.Alone.{cut-ends, whole-goes}
 

@@ -10,7 +10,7 @@ ghost use Prim.Native.Nat.{_-_};
 ghost use Rattle.stream.specs.Stream.{frontOf};
 ghost use Rattle.stream.specs.Exchange.{begun};
 ghost use Rattle.stream.specs.Stream as means;
-use reading::LONGEST;
+use reader::LONGEST;
 use record::little;
 
 mod moving;

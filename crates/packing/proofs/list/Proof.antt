@@ -6,8 +6,8 @@ use native.Mathlib.Omega.{arith}
 use lib.ListN.{length, take}
 use lib.Seq.{length-take-le}
 use Rattle.triangle.specs.Count.{largest, mostBeats}
-use Rattle.record.specs.Record.{kindIn, ups, downs, body, meant}
-use Rattle.order.specs.declared.Order.{Order}
+use Rattle.record.specs.Record.{layoutIn, ups, downs, body, meant}
+use Rattle.record.specs.declared.reading.Order.{Order}
 use Rattle.line.specs.Line.{Beats}
 use Rattle.packing.proofs.Listing.{Ordered, ordered, turned-down, list-accepted, list-refused}
 use borrow.Author.Needs.{needs}
@@ -38,7 +38,7 @@ module _ (c : tie.After-struct-known) where
   long = called .read-by .kept .1 .1 .0 ∙ start .pre .1
 
   -- the part of the room that is lent on
-  shown : take (order .t + order .s) (called .read-by .last .1 .1 .0) ≡ meant (kindIn src) (ups src) (downs src) (body src)
+  shown : take (order .t + order .s) (called .read-by .last .1 .1 .0) ≡ meant (layoutIn src) (ups src) (downs src) (body src)
   shown = ap (take (order .t + order .s)) (called .read-by .ensures .1) ∙ says .in-room
 
   few : (order .t ≤ largest) × (order .s ≤ order .t) × (length (called .read-by .last .1 .1 .0) ≡ mostBeats)

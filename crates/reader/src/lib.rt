@@ -1,0 +1,49 @@
+// Order records, read: the manual, "Order record", by the layout of their kind. The contracts cite specs/Answers,
+// which says what reading answers and leaves by the definitions of `record`; proofs/Theorems says that what was written is read back, and that what is read is written again byte for byte. [P1]
+ghost use mathlib.Core.Path.{_≡_};
+ghost use Rattle.lookup.specs.Lent.{Counts};
+ghost use Rattle.reader.specs.Answers.{readAnswer, readLeft};
+use record::Reading;
+use record::layout;
+use record::layout::Layout;
+use refusal::Refusal;
+use triangle::SIDE;
+
+mod reads;
+
+pub use reads::LONGEST;
+
+// Reads the record that a slice starts with, and writes its schedule into the first t+s places of the lent
+// slice, leaving the others. Refuses 12, 9, 11 (L below 2), 10, 11 (L wrong for the kind), 1, 2, then 7, or 11
+// (kind 2's exact L and unused bits), 5, 6; a refusal changes nothing. [W2] [D1a] [B2]
+pub fn read(src: &[u8], out: &mut [u8]) -> Reading
+    ensures { λ r. ⌜ r ≡ readAnswer (now (src .entry)) (now (out .entry)) ⌝ }
+    ensures { λ _. ⌜ now (out .exit) ≡ readLeft (now (src .entry)) (now (out .entry)) ⌝ }
+{
+    let none = lookup::NONE;
+    read_by(&none, src, out)
+}
+
+// The same, by rows of the table that the caller keeps from call to call. [P13]
+pub fn read_by(rows: &[[u64; SIDE]], src: &[u8], out: &mut [u8]) -> Reading
+    requires { ⌜ Counts (now rows) ⌝ }
+    ensures { λ r. ⌜ r ≡ readAnswer (now (src .entry)) (now (out .entry)) ⌝ }
+    ensures { λ _. ⌜ now (out .exit) ≡ readLeft (now (src .entry)) (now (out .entry)) ⌝ }
+{
+    if out.len() < triangle::BEATS {
+        return Reading::Refused(Refusal::NoRoom, 0);
+    }
+    if reads::is_cut(src) {
+        return Reading::Refused(Refusal::CutShort, 0);
+    }
+    let long = reads::long(src);
+    if long < 2 {
+        return Reading::Refused(Refusal::WrongSize, 2 + long);
+    }
+    let layout = layout::of_kind(reads::kind(src));
+    match layout {
+        Layout::Numbered(at) => reads::numbered(rows, at, src, long, out),
+        Layout::Beaten(at) => reads::beaten(rows, at, src, long, out),
+        Layout::Unknown => Reading::Refused(Refusal::UnknownKind, 2 + long),
+    }
+}

@@ -1,0 +1,29 @@
+-- The layouts of the kinds.
+--     layout-other         a number that is no kind's has no layout
+--     counts-at-four       the counts of every kind stand at byte 4: nothing stands between them and the kind
+--     known-small          the number of a kind fits in its two bytes
+-- Assumes nothing.
+use mathlib.Core.Bool.{false, true≢false}
+use mathlib.Core.Path.{_≡_, refl}
+use Prim.Native.Nat.{ℕ, zero, suc, _<_}
+use native.Mathlib.Omega.{arith}
+use Rattle.record.specs.declared.layout.Layout.{Layout}
+use Rattle.record.specs.Layout.{layoutOf, countsAt, isUnknown}
+
+pub layout-other : (k : ℕ) → ((k ≡ 1) → ⊥) → ((k ≡ 2) → ⊥) → layoutOf k ≡ Layout.Unknown
+layout-other zero a b = refl
+layout-other (suc zero) a b = absurd (a refl)
+layout-other (suc (suc zero)) a b = absurd (b refl)
+layout-other (suc (suc (suc k))) a b = refl
+
+pub counts-at-four : (k : ℕ) → isUnknown (layoutOf k) ≡ false → countsAt (layoutOf k) ≡ 4
+counts-at-four zero u = absurd (true≢false u)
+counts-at-four (suc zero) u = refl
+counts-at-four (suc (suc zero)) u = refl
+counts-at-four (suc (suc (suc k))) u = absurd (true≢false u)
+
+pub known-small : (k : ℕ) → isUnknown (layoutOf k) ≡ false → k < 65536
+known-small zero u = omega arith
+known-small (suc zero) u = omega arith
+known-small (suc (suc zero)) u = omega arith
+known-small (suc (suc (suc k))) u = absurd (true≢false u)

@@ -1,0 +1,28 @@
+// How each kind of record is laid out: the manual, "Order record". A kind is a row of `of_kind`; `write` and the
+// crate `reader` go by it. The contracts cite specs/Layout. [P1]
+ghost use mathlib.Core.Path.{_≡_};
+ghost use Rattle.record.specs.Layout.{layoutOf};
+
+// What a record holds after its counts, and the byte at which the counts stand: t there, s after it.
+pub enum Layout {
+    // the number of the form
+    Numbered(usize),
+    // its beats, packed
+    Beaten(usize),
+    // no layout: the kind is unknown
+    Unknown,
+}
+
+// The bytes of a number.
+pub const NUMBER: usize = 8;
+
+// The layout of a kind.
+pub fn of_kind(kind: u64) -> Layout
+    ensures { λ r. ⌜ r ≡ layoutOf kind ⌝ }
+{
+    match kind {
+        1 => Layout::Numbered(4),
+        2 => Layout::Beaten(4),
+        _ => Layout::Unknown,
+    }
+}
