@@ -9,8 +9,10 @@ row, in three parts of whole rows, since a match of all of them is more than one
 import pathlib
 import re
 import sys
+import textwrap
 
 HERE = pathlib.Path(__file__).resolve().parent
+WIDTH = 120
 
 
 def largest():
@@ -88,19 +90,28 @@ def rattle(rows):
     return "\n".join(out) + "\n"
 
 
+def broken(rows):
+    """A list of rows as lines of at most WIDTH characters, those of a row as few and then as short as can be: each row begins one, and a
+    sign ∷ stands at the end of each but the last."""
+    rows[-1] += " []"
+    out = []
+    for row in rows:
+        tries = [textwrap.wrap(row.replace(" ∷", "_∷"), width) for width in range(WIDTH // 2, WIDTH - 3)]
+        out += ["    " + line.replace("_", " ") for line in min(tries, key=len)]
+    return out
+
+
 def antt(rows):
     out = ["-- The table of counts as a list of rows: what the array of src/table.rt holds. Written by table.py; not edited by hand."]
     out += ["-- proofs/Rule.antt proves that its entries are N(t, s), so nothing here has to be believed. Definitions only."]
     out += ["use mathlib.Core.List.{List, [], _∷_}", "use Prim.Native.Nat.{ℕ}", "use lib.ListN.{getD}", ""]
     out += ["abbrev pub table : List (List ℕ)", "table ="]
-    out += ["    (" + " ∷ ".join(str(n) for n in row) + " ∷ []) ∷" for row in rows]
-    out[-1] += " []"
+    out += broken(["(" + " ∷ ".join(str(n) for n in row) + " ∷ []) ∷" for row in rows])
     out += ["", "-- the entry in row t and column s, and 0 outside the table", "abbrev pub at : ℕ → ℕ → ℕ", "at t s = getD (getD table t []) s 0"]
     out += ["", "-- the counts with s up to t, row after row: what the look-up's three parts hold"]
     for name, _, part in parts(rows):
         out += ["", f"abbrev pub {name} : List ℕ", f"{name} ="]
-        out += ["    " + " ∷ ".join(str(n) for n in row) + " ∷" for row in part]
-        out[-1] += " []"
+        out += broken([" ∷ ".join(str(n) for n in row) + " ∷" for row in part])
     for name, first, _ in parts(rows)[1:]:
         out += ["", f"-- the row that {name} starts with", f"abbrev pub {name}Row : ℕ", f"{name}Row = {first}"]
     return "\n".join(out) + "\n"

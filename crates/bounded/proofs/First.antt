@@ -21,24 +21,41 @@ pub record Found (f : ℕ → Bool) (i n k : ℕ) : Type 0 where
 
 pub found : (f : ℕ → Bool) (i n : ℕ) → Found f i n (firstFrom f i n)
 unfolding firstFrom
-found f i zero = record { low = omega arith; high = omega arith; holds = λ h. absurd (omega arith); before = λ j h k. absurd (omega arith) }
+found f i zero = record {
+  low = omega arith;
+  high = omega arith;
+  holds = λ h. absurd (omega arith);
+  before = λ j h k. absurd (omega arith);
+}
 found f i (suc n) = look (f i) refl (found f (suc i) n)
   where
-    look : (q : Bool) → f i ≡ q → Found f (suc i) n (firstFrom f (suc i) n) → Found f i (suc n) (cond q i (firstFrom f (suc i) n))
-    look true e later = record { low = omega arith; high = omega arith; holds = λ h. e; before = λ j h k. absurd (omega arith) }
+    look : (q : Bool) → f i ≡ q → Found f (suc i) n (firstFrom f (suc i) n)
+        → Found f i (suc n) (cond q i (firstFrom f (suc i) n))
+    look true e later = record {
+      low = omega arith;
+      high = omega arith;
+      holds = λ h. e;
+      before = λ j h k. absurd (omega arith);
+    }
     look false e later =
         record {
           low = omega (arith, later .low);
           high = omega (arith, later .high);
           holds = λ h. later .holds (omega arith);
-          before = λ j h k. elim (decLt i j) [ yes l ↦ later .before j l k | no l ↦ let here : j ≡ i = omega arith in ap f here ∙ e ];
+          before = λ j h k. elim (decLt i j) [
+            | yes l ↦ later .before j l k
+            | no l ↦ let here : j ≡ i = omega arith in ap f here ∙ e
+          ];
         }
 
 pub found-unique : {f : ℕ → Bool} {i n k m : ℕ} → Found f i n k → Found f i n m → k ≡ m
 found-unique {f} {i} {n} {k} {m} p q =
     elim (decLt k m) [
       | yes h ↦ absurd (true≢false (sym (p .holds (omega (arith, q .high))) ∙ q .before k (p .low) h))
-      | no h ↦ elim (decLt m k) [ yes l ↦ absurd (true≢false (sym (q .holds (omega (arith, p .high))) ∙ p .before m (q .low) l)) | no l ↦ omega arith ]
+      | no h ↦ elim (decLt m k) [
+        | yes l ↦ absurd (true≢false (sym (q .holds (omega (arith, p .high))) ∙ p .before m (q .low) l))
+        | no l ↦ omega arith
+      ]
     ]
 
 module _ (f : ℕ → Bool) (n : ℕ) where
@@ -49,7 +66,11 @@ module _ (f : ℕ → Bool) (n : ℕ) where
   first-before j h = found f 0 n .before j (omega arith) h
 
   pub first-is : (k : ℕ) → k < n → f k ≡ true → ((j : ℕ) → j < k → f j ≡ false) → first f n ≡ k
-  first-is k h e none = found-unique (found f 0 n) (record { low = omega arith; high = omega arith; holds = λ _. e; before = λ j _ l. none j l })
+  first-is k h e none =
+      found-unique (found f 0 n)
+      (record { low = omega arith; high = omega arith; holds = λ _. e; before = λ j _ l. none j l })
 
   pub first-none : ((j : ℕ) → j < n → f j ≡ false) → first f n ≡ n
-  first-none none = found-unique (found f 0 n) (record { low = omega arith; high = omega arith; holds = λ h. absurd (omega arith); before = λ j _ l. none j l })
+  first-none none =
+      found-unique (found f 0 n)
+      (record { low = omega arith; high = omega arith; holds = λ h. absurd (omega arith); before = λ j _ l. none j l })

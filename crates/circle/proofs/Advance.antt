@@ -15,7 +15,16 @@ use Rattle.triangle.proofs.Count.{N-add, N-zero, N-pos, N-over}
 use Rattle.schedule.specs.Schedule.{ones, zeros}
 use Rattle.schedule.proofs.Hand.{plays}
 use Rattle.circle.specs.Step.{next}
-use Rattle.circle.proofs.Shape.{ups, downs, plays-shape, shape-plays, shape-ones, shape-zeros, turn-ups, turn-downs}
+use Rattle.circle.proofs.Shape.{
+  ups,
+  downs,
+  plays-shape,
+  shape-plays,
+  shape-ones,
+  shape-zeros,
+  turn-ups,
+  turn-downs,
+}
 use Rattle.circle.proofs.Rank.{raise, rank, rankOf}
 use Rattle.circle.proofs.Moves.{Moved, stays, turns, closes, lifts, levels, dips, next-moves}
 
@@ -40,7 +49,8 @@ module _ (r : List ℕ) (t s : ℕ) (o : ones r ≡ t) (z : zeros r ≡ s) where
   unfolding rank raise
   rank-first n = rw (o, z, n)
 
-follow : (a : List ℕ) (h : ℕ) (r q : List ℕ) → h + zeros r ≡ ones r → ones q ≡ ones r → zeros q ≡ zeros r → 1 ≤ rank r → rank q ≡ suc (rank r)
+follow : (a : List ℕ) (h : ℕ) (r q : List ℕ) → h + zeros r ≡ ones r → ones q ≡ ones r → zeros q ≡ zeros r → 1 ≤ rank r
+    → rank q ≡ suc (rank r)
     → plays h a ≡ true → rank (reverseAux a q) ≡ suc (rank (reverseAux a r))
 unfolding plays rank ones zeros
 follow [] h r q e o z i n k = n
@@ -134,10 +144,14 @@ advance-stays p o =
       good = o;
       same-ones = refl;
       same-zeros = refl;
-      ranks = inr (n, ap suc n ∙ sym (N-of (ups p []) (ones (ups p [])) 0 refl (shape-zeros p 0 []) ∙ N-zero (ones (ups p []))));
+      ranks = inr (
+        n,
+        ap suc n ∙ sym (N-of (ups p []) (ones (ups p [])) 0 refl (shape-zeros p 0 []) ∙ N-zero (ones (ups p []))),
+      );
     }
 
-advance-turns : (p q : ℕ) → plays 0 (ups (suc p) (downs (suc q) [])) ≡ true → Advances (ups (suc p) (downs (suc q) [])) (1 ∷ 0 ∷ ups p (downs q []))
+advance-turns : (p q : ℕ) → plays 0 (ups (suc p) (downs (suc q) [])) ≡ true
+    → Advances (ups (suc p) (downs (suc q) [])) (1 ∷ 0 ∷ ups p (downs q []))
 unfolding plays ones zeros
 advance-turns p q o =
     let r = plays-shape (suc p) (suc q) [] o in
@@ -151,12 +165,18 @@ advance-turns p q o =
     by : (p q h : ℕ) → suc p ≡ suc q + h
         → (rankOf (1 ∷ 0 ∷ ups p (downs q [])) ≡ suc (rankOf (ups (suc p) (downs (suc q) []))))
         ⊎ ((rankOf (1 ∷ 0 ∷ ups p (downs q [])) ≡ 0)
-        × (suc (rankOf (ups (suc p) (downs (suc q) []))) ≡ N (ones (ups (suc p) (downs (suc q) []))) (zeros (ups (suc p) (downs (suc q) [])))))
-    by (suc p) q h e = inl (rank-dipped (suc p) q [] ∙ dipped-rank p q ∙ ap suc (sym (rank-flat (suc (suc p)) (suc q) [] ∙ flat-rank (suc (suc p)) (suc q))))
+        × (suc (rankOf (ups (suc p) (downs (suc q) [])))
+        ≡ N (ones (ups (suc p) (downs (suc q) []))) (zeros (ups (suc p) (downs (suc q) [])))))
+    by (suc p) q h e =
+        inl
+        (rank-dipped (suc p) q []
+        ∙ dipped-rank p q
+        ∙ ap suc (sym (rank-flat (suc (suc p)) (suc q) [] ∙ flat-rank (suc (suc p)) (suc q))))
     by zero zero h e = unfold rank raise N in inr (refl, refl)
     by zero (suc q) h e = absurd (omega arith)
 
-advance-closes : (p q : ℕ) → plays 0 (ups p (downs (suc q) (1 ∷ []))) ≡ true → Advances (ups p (downs (suc q) (1 ∷ []))) (ups (suc p) (downs (suc q) []))
+advance-closes : (p q : ℕ) → plays 0 (ups p (downs (suc q) (1 ∷ []))) ≡ true
+    → Advances (ups p (downs (suc q) (1 ∷ []))) (ups (suc p) (downs (suc q) []))
 unfolding plays ones zeros
 advance-closes p q o =
     let r = plays-shape p (suc q) (1 ∷ []) o in
@@ -171,7 +191,8 @@ advance-closes p q o =
           rank-flat p (suc q) (1 ∷ []),
           flat-up p (suc q),
           N-pos (suc p) (suc q) (omega (arith, r .1)),
-          N-of (ups p (downs (suc q) (1 ∷ []))) (suc p) (suc q) (omega (arith, shape-ones p (suc q) (1 ∷ []))) (omega (arith, shape-zeros p (suc q) (1 ∷ []))),
+          N-of (ups p (downs (suc q) (1 ∷ []))) (suc p) (suc q) (omega (arith, shape-ones p (suc q) (1 ∷ [])))
+              (omega (arith, shape-zeros p (suc q) (1 ∷ []))),
         ),
       );
     }
@@ -186,13 +207,16 @@ advance-lifts p q a o =
     let z₁ = flat-zeros p (suc q) in
     let o₂ = flat-ones (suc p) (suc q) in
     let z₂ = flat-zeros (suc p) (suc q) in
-    let n = rank-up (1 ∷ flat p (suc q)) (suc p) (suc q) (omega arith) z₁ (N (suc p) (suc q) - 1) (flat-up p (suc q)) (omega (arith, two-forms p q ahead)) in
+    let n =
+    rank-up (1 ∷ flat p (suc q)) (suc p) (suc q) (omega arith) z₁ (N (suc p) (suc q) - 1) (flat-up p (suc q))
+    (omega (arith, two-forms p q ahead)) in
     record {
       good = shape-plays (suc p) (suc q) (suc (r .0)) (1 ∷ a) (omega (arith, r .1)) ∙ r .2;
       same-ones = omega (arith, shape-ones p (suc q) (1 ∷ 1 ∷ a), shape-ones (suc p) (suc q) (1 ∷ a));
       same-zeros = omega (arith, shape-zeros p (suc q) (1 ∷ 1 ∷ a), shape-zeros (suc p) (suc q) (1 ∷ a));
       ranks = inl (rank-flat (suc p) (suc q) (1 ∷ a)
-          ∙ follow a (suc (suc (r .0))) (1 ∷ 1 ∷ flat p (suc q)) (1 ∷ flat (suc p) (suc q)) (omega (arith, r .1)) (omega arith) (omega arith)
+          ∙ follow a (suc (suc (r .0))) (1 ∷ 1 ∷ flat p (suc q)) (1 ∷ flat (suc p) (suc q)) (omega (arith, r .1))
+          (omega arith) (omega arith)
           (omega (arith, N-pos (suc (suc p)) q (omega arith)))
           (omega (arith, flat-up (suc p) (suc q), N-add (suc p) q (omega arith), two-forms p q ahead)) (r .2)
           ∙ ap suc (sym (rank-flat p (suc q) (1 ∷ 1 ∷ a))));
@@ -220,7 +244,8 @@ advance-levels q a o =
     by : (a : List ℕ) → plays 0 a ≡ true
         → (rankOf (ups (suc (suc q)) (downs (suc q) (0 ∷ a))) ≡ suc (rankOf (ups (suc q) (downs (suc q) (1 ∷ 0 ∷ a)))))
         ⊎ ((rankOf (ups (suc (suc q)) (downs (suc q) (0 ∷ a))) ≡ 0)
-        × (suc (rankOf (ups (suc q) (downs (suc q) (1 ∷ 0 ∷ a)))) ≡ N (ones (ups (suc q) (downs (suc q) (1 ∷ 0 ∷ a)))) (zeros (ups (suc q) (downs (suc q) (1 ∷ 0 ∷ a))))))
+        × (suc (rankOf (ups (suc q) (downs (suc q) (1 ∷ 0 ∷ a))))
+        ≡ N (ones (ups (suc q) (downs (suc q) (1 ∷ 0 ∷ a)))) (zeros (ups (suc q) (downs (suc q) (1 ∷ 0 ∷ a))))))
     by [] k = inr (
       rank-flat (suc (suc q)) (suc q) (0 ∷ []) ∙ flat-rank (suc (suc q)) (suc q),
       omega (
@@ -229,7 +254,9 @@ advance-levels q a o =
         flat-up (suc q) (suc q),
         two,
         closed-same q,
-        N-of (ups (suc q) (downs (suc q) (1 ∷ 0 ∷ []))) (suc (suc q)) (suc (suc q)) (omega (arith, shape-ones (suc q) (suc q) (1 ∷ 0 ∷ []))) (omega (arith, shape-zeros (suc q) (suc q) (1 ∷ 0 ∷ []))),
+        N-of (ups (suc q) (downs (suc q) (1 ∷ 0 ∷ []))) (suc (suc q)) (suc (suc q))
+            (omega (arith, shape-ones (suc q) (suc q) (1 ∷ 0 ∷ [])))
+            (omega (arith, shape-zeros (suc q) (suc q) (1 ∷ 0 ∷ []))),
       ),
     )
     by (zero ∷ a) k = absurd (false≢true k)
@@ -239,10 +266,15 @@ advance-levels q a o =
         let z₁ = flat-zeros (suc q) (suc q) in
         let o₂ = flat-ones (suc (suc q)) (suc q) in
         let z₂ = flat-zeros (suc (suc q)) (suc q) in
-        let n₁ = rank-up (0 ∷ 1 ∷ flat (suc q) (suc q)) (suc (suc q)) (suc (suc q)) (omega arith) (omega arith) (N (suc (suc q)) (suc q) - 1) (flat-up (suc q) (suc q)) (omega (arith, two)) in
-        let n₂ = rank-first (0 ∷ flat (suc (suc q)) (suc q)) (suc (suc q)) (suc (suc q)) o₂ (omega arith) (flat-rank (suc (suc q)) (suc q)) in
+        let n₁ =
+        rank-up (0 ∷ 1 ∷ flat (suc q) (suc q)) (suc (suc q)) (suc (suc q)) (omega arith) (omega arith)
+        (N (suc (suc q)) (suc q) - 1) (flat-up (suc q) (suc q)) (omega (arith, two)) in
+        let n₂ =
+        rank-first (0 ∷ flat (suc (suc q)) (suc q)) (suc (suc q)) (suc (suc q)) o₂ (omega arith)
+        (flat-rank (suc (suc q)) (suc q)) in
         inl (rank-flat (suc (suc q)) (suc q) (0 ∷ 1 ∷ a)
-        ∙ follow a 1 (1 ∷ 0 ∷ 1 ∷ flat (suc q) (suc q)) (1 ∷ 0 ∷ flat (suc (suc q)) (suc q)) (omega arith) (omega arith) (omega arith)
+        ∙ follow a 1 (1 ∷ 0 ∷ 1 ∷ flat (suc q) (suc q)) (1 ∷ 0 ∷ flat (suc (suc q)) (suc q)) (omega arith) (omega arith)
+        (omega arith)
         (omega (arith, N-pos (suc (suc (suc q))) (suc q) (omega arith)))
         (omega (arith, N-add (suc (suc q)) (suc q) (omega arith), closed-same q, two)) k
         ∙ ap suc (sym (rank-flat (suc q) (suc q) (1 ∷ 0 ∷ 1 ∷ a))))
@@ -258,14 +290,18 @@ advance-dips (suc p) q a le o =
     let o₂ = dipped-ones (suc p) (suc q) in
     let z₂ = dipped-zeros (suc p) (suc q) in
     let n₁ = flat-up (suc (suc p)) (suc q) in
-    let n₂ = rank-up (dipped (suc p) (suc q)) (suc (suc p)) (suc (suc q)) o₂ z₂ 1 (dipped-rank p (suc q)) (omega arith) in
+    let n₂ =
+    rank-up (dipped (suc p) (suc q)) (suc (suc p)) (suc (suc q)) o₂ z₂ 1 (dipped-rank p (suc q)) (omega arith) in
     let two = two-forms (suc (suc p)) q (omega arith) in
     record {
-      good = shape-plays (suc p) (suc q) (pred (r .0)) (1 ∷ a) (omega (arith, r .1)) ∙ subst (λ (k : ℕ). plays k a ≡ true) (omega (arith, r .1)) (r .2);
+      good =
+          shape-plays (suc p) (suc q) (pred (r .0)) (1 ∷ a) (omega (arith, r .1))
+          ∙ subst (λ (k : ℕ). plays k a ≡ true) (omega (arith, r .1)) (r .2);
       same-ones = omega (arith, shape-ones (suc (suc p)) (suc q) (1 ∷ 0 ∷ a), shape-ones (suc p) (suc q) (1 ∷ a));
       same-zeros = omega (arith, shape-zeros (suc (suc p)) (suc q) (1 ∷ 0 ∷ a), shape-zeros (suc p) (suc q) (1 ∷ a));
       ranks = inl (rank-dipped (suc p) (suc q) (1 ∷ a)
-          ∙ follow a (r .0) (0 ∷ 1 ∷ flat (suc (suc p)) (suc q)) (1 ∷ dipped (suc p) (suc q)) (omega (arith, r .1)) (omega arith) (omega arith)
+          ∙ follow a (r .0) (0 ∷ 1 ∷ flat (suc (suc p)) (suc q)) (1 ∷ dipped (suc p) (suc q)) (omega (arith, r .1))
+          (omega arith) (omega arith)
           (omega arith) (omega arith) (r .2)
           ∙ ap suc (sym (rank-flat (suc (suc p)) (suc q) (1 ∷ 0 ∷ a))));
     }
@@ -277,7 +313,8 @@ moved-advances (closes p q) o = advance-closes p q o
 moved-advances (lifts p q a) o = advance-lifts p q a o
 moved-advances (levels p q a e) o = by p e o
   where
-    by : (p : ℕ) → p ≡ suc q → plays 0 (ups p (downs (suc q) (1 ∷ 0 ∷ a))) ≡ true → Advances (ups p (downs (suc q) (1 ∷ 0 ∷ a))) (ups (suc p) (downs (suc q) (0 ∷ a)))
+    by : (p : ℕ) → p ≡ suc q → plays 0 (ups p (downs (suc q) (1 ∷ 0 ∷ a))) ≡ true
+        → Advances (ups p (downs (suc q) (1 ∷ 0 ∷ a))) (ups (suc p) (downs (suc q) (0 ∷ a)))
     by p e = rw e (advance-levels q a)
 moved-advances (dips p q a ahead) o = advance-dips p q a ahead o
 

@@ -200,7 +200,8 @@ counts-4 p = omega (arith, p .counts)
 past-the-end : Plans (1 ∷ 1 ∷ []) (Move.Swaps 2 1) → ⊥
 past-the-end p = omega (arith, p .inside .0)
 
--- one way from 110 to 101 and none to 111; and a form that follows itself has five ways to itself in five steps, not one
+-- one way from 110 to 101 and none to 111; and a form that follows itself has five ways to
+-- itself in five steps, not one
 schedule-110 : Schedule 2 1 (1 ∷ 1 ∷ 0 ∷ [])
 unfolding ones zeros plays
 schedule-110 = plays-schedule refl refl refl

@@ -21,7 +21,19 @@ use Rattle.circle.proofs.Shape.{ups, downs, shape-ones, shape-zeros, to
 use Rattle.circle.proofs.Rank.{rankOf}
 use Rattle.circle.proofs.Moves.{has01-none, has01-some}
 use Rattle.circle.proofs.Circle.{same-rank, next-schedule, next-rank, steps-schedule, top-schedule}
-use Rattle.circle.proofs.Work.{changed-self, changed-same, Work, idle, turn, swap, dip, next-work, turn-two, swap-two, dip-four}
+use Rattle.circle.proofs.Work.{
+  changed-self,
+  changed-same,
+  Work,
+  idle,
+  turn,
+  swap,
+  dip,
+  next-work,
+  turn-two,
+  swap-two,
+  dip-four,
+}
 
 next-injective : {t s : ℕ} {b c : List ℕ} → Schedule t s b → Schedule t s c → next b ≡ next c → b ≡ c
 next-injective {t} {s} {b} {c} p q e = same-rank p q (by (next-rank p) (next-rank q))
@@ -42,11 +54,15 @@ module _ (t s : ℕ) (c : List ℕ) where
 
   pub not-other : getD c 1 0 ≡ 0 → c ≡ next (top t s) → isDip t s c ≡ false
   unfolding isDip
-  not-other z e = simp (eq-eqb (getD c 1 0) 0 z, le-ltb 0 (changed c (next (top t s))) (omega (arith, ap (changed c) (sym e), changed-self c)))
+  not-other z e = simp (
+    eq-eqb (getD c 1 0) 0 z,
+    le-ltb 0 (changed c (next (top t s))) (omega (arith, ap (changed c) (sym e), changed-self c)),
+  )
 
   pub is-dip : getD c 1 0 ≡ 0 → length c ≡ length (next (top t s)) → (c ≡ next (top t s) → ⊥) → isDip t s c ≡ true
   unfolding isDip
-  is-dip z n e = simp (eq-eqb (getD c 1 0) 0 z, lt-ltb 0 (changed c (next (top t s))) (some (changed c (next (top t s))) refl))
+  is-dip z n e =
+      simp (eq-eqb (getD c 1 0) 0 z, lt-ltb 0 (changed c (next (top t s))) (some (changed c (next (top t s))) refl))
     where
       some : (k : ℕ) → changed c (next (top t s)) ≡ k → 0 < k
       some zero q = absurd (e (changed-same c (next (top t s)) n q))
@@ -65,18 +81,27 @@ module _ {t s : ℕ} (two : 2 ≤ t) (one : 1 ≤ s) where
   next-changed {b} p = by (next-work b (schedule-plays p))
     where
       by : Work b (next b) → changed b (next b) ≡ 2 + 2 * cond (isDip t s (next b)) 1 0
-      by (idle e o) = absurd (⊎-elim (λ (few : ones b ≤ 1). omega (arith, p .taken)) (λ (no-zero : zeros b ≡ 0). omega (arith, schedule-zeros p)) o)
+      by (idle e o) =
+          absurd (⊎-elim (λ (few : ones b ≤ 1). omega (arith, p .taken))
+          (λ (no-zero : zeros b ≡ 0). omega (arith, schedule-zeros p)) o)
       by (turn a d e f) =
-          simp (not-other t s (next b) (ap (λ (l : List ℕ). getD l 1 0) f) (ap next (flat-top (suc (suc a)) (suc d) p e))) (turn-two a d e f)
-      by (swap a d z e f) = simp (not-second t s (next b) (λ q. omega (arith, q, ap (λ (l : List ℕ). getD l 1 0) f))) (swap-two a d z e f)
+          simp (not-other t s (next b) (ap (λ (l : List ℕ). getD l 1 0) f)
+          (ap next (flat-top (suc (suc a)) (suc d) p e)))
+          (turn-two a d e f)
+      by (swap a d z e f) =
+          simp (not-second t s (next b) (λ q. omega (arith, q, ap (λ (l : List ℕ). getD l 1 0) f))) (swap-two a d z e f)
       by (dip a d z e f) =
           let top-form = top-schedule t s (schedule-le p) in
-          simp (is-dip t s (next b) (ap (λ (l : List ℕ). getD l 1 0) f) (next-schedule p .size ∙ sym (next-schedule top-form .size)) (other top-form)) (dip-four a d z e f)
+          simp (is-dip t s (next b) (ap (λ (l : List ℕ). getD l 1 0) f)
+          (next-schedule p .size ∙ sym (next-schedule top-form .size)) (other top-form))
+          (dip-four a d z e f)
         where
           other : Schedule t s (top t s) → next b ≡ next (top t s) → ⊥
           other q same =
               true≢false
-              (sym (has01-some (suc (suc a)) d (0 ∷ z)) ∙ ap has01 (sym e ∙ next-injective p q same ∙ top-shape t s) ∙ has01-none t s)
+              (sym (has01-some (suc (suc a)) d (0 ∷ z))
+              ∙ ap has01 (sym e ∙ next-injective p q same ∙ top-shape t s)
+              ∙ has01-none t s)
 
   pub worked-dips : {b : List ℕ} (k : ℕ) → Schedule t s b → worked k b ≡ 2 * k + 2 * dips t s k b
   unfolding worked dips steps
@@ -93,7 +118,8 @@ idle-changed {t} {s} {b} p few = by (next-work b (schedule-plays p))
 
     shaped : (u d : ℕ) (c : List ℕ) → b ≡ ups u (downs d c) → 2 ≤ u + ones c → 1 ≤ d + zeros c → ⊥
     shaped u d c e h k =
-        many (u + ones c) (d + zeros c) (sym (shape-ones u d c) ∙ ap ones (sym e) ∙ p .taken) (sym (shape-zeros u d c) ∙ ap zeros (sym e) ∙ schedule-zeros p) h k
+        many (u + ones c) (d + zeros c) (sym (shape-ones u d c) ∙ ap ones (sym e) ∙ p .taken)
+        (sym (shape-zeros u d c) ∙ ap zeros (sym e) ∙ schedule-zeros p) h k
 
     by : Work b (next b) → changed b (next b) ≡ 0
     by (idle e o) = ap (changed b) (sym e) ∙ changed-self b

@@ -31,20 +31,34 @@ use Rattle.circle.specs.Walk.{steps, changed, worked}
 use Rattle.circle.specs.Plan.{Form}
 use Rattle.circle.specs.Answers.{mostSteps, runRows}
 use Rattle.circle.proofs.Circle.{next-schedule}
-use Rattle.circle.proofs.Work.{Work, idle, turn, swap, dip, next-work, changed-self, turn-two, swap-two, dip-four}
+use Rattle.circle.proofs.Work.{
+  Work,
+  idle,
+  turn,
+  swap,
+  dip,
+  next-work,
+  changed-self,
+  turn-two,
+  swap-two,
+  dip-four,
+}
 
 -- what a call answers and leaves, by the verdict on its input
 pub refused-so : {v : Verdict} {why : Refusal} → v ≡ Verdict.Refused why → (n : ℕ) (done lent : List ℕ)
     → (Answer.Refused why ≡ answer v n) × (lent ≡ left v done lent)
 refused-so e n done lent = (ap (λ (v : Verdict). answer v n) (sym e), ap (λ (v : Verdict). left v done lent) (sym e))
 
-pub accepted-so : {v : Verdict} → v ≡ Verdict.Accepted → {r n : ℕ} → r ≡ n → {c done : List ℕ} → c ≡ done → (lent : List ℕ)
+pub accepted-so : {v : Verdict} → v ≡ Verdict.Accepted → {r n : ℕ} → r ≡ n → {c done : List ℕ} → c ≡ done
+    → (lent : List ℕ)
     → (Answer.Value r ≡ answer v n) × (c ≡ left v done lent)
-accepted-so e {n = n} q {done = done} d lent = (ap Answer.Value q ∙ ap (λ (v : Verdict). answer v n) (sym e), d ∙ ap (λ (v : Verdict). left v done lent) (sym e))
+accepted-so e {n = n} q {done = done} d lent =
+    (ap Answer.Value q ∙ ap (λ (v : Verdict). answer v n) (sym e), d ∙ ap (λ (v : Verdict). left v done lent) (sym e))
 
 -- the verdict on a run, from the check's
 module _ (t s : ℕ) (b : List ℕ) (k : ℕ) where
-  pub run-refused : {why : Refusal} → checked t s b ≡ Verdict.Refused why → judge (runRows t s b k) ≡ Verdict.Refused why
+  pub run-refused : {why : Refusal} → checked t s b ≡ Verdict.Refused why
+      → judge (runRows t s b k) ≡ Verdict.Refused why
   run-refused {why} e = judge-refused (checkRows t s b) ((ltb mostSteps k ⇒ RunTooLong) ∷ []) why e
 
   pub run-long : checked t s b ≡ Verdict.Accepted → mostSteps < k → judge (runRows t s b k) ≡ Verdict.Refused RunTooLong
@@ -89,7 +103,8 @@ pub walked-start : {a : List ℕ} → Form a → Walked a a 0 0
 unfolding steps worked
 walked-start f = record { form = f; long = refl; reached = refl; summed = refl; few = omega arith }
 
-pub walked-turn : (a b c : List ℕ) (i n r : ℕ) → Walked a b i n → length c ≡ length b → c ≡ next b → r ≡ changed b (next b) → Walked a c (i + 1) (n + r)
+pub walked-turn : (a b c : List ℕ) (i n r : ℕ) → Walked a b i n → length c ≡ length b → c ≡ next b
+    → r ≡ changed b (next b) → Walked a c (i + 1) (n + r)
 unfolding steps worked
 walked-turn a b c i n r w l e q =
     record {

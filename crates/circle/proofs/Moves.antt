@@ -20,7 +20,25 @@ use Rattle.schedule.proofs.Hand.{plays, plays-schedule, schedule-plays}
 use Rattle.schedule.proofs.Tally.{ones-append, zeros-append}
 use Rattle.schedule.proofs.Theorems.{isSchedule-true, true-isSchedule}
 use Rattle.circle.specs.Step.{shift, is01, found, has01, movesNext, next}
-use Rattle.circle.proofs.Shape.{ups, downs, View, none, some, view, plays-shape, shape-plays, shape-short, shape-zeros, shape-length, shape-join, downs-snoc, get-ups, get-downs, get-up, get-down}
+use Rattle.circle.proofs.Shape.{
+  ups,
+  downs,
+  View,
+  none,
+  some,
+  view,
+  plays-shape,
+  shape-plays,
+  shape-short,
+  shape-zeros,
+  shape-length,
+  shape-join,
+  downs-snoc,
+  get-ups,
+  get-downs,
+  get-up,
+  get-down,
+}
 
 pub data Moved : List ℕ → List ℕ → Type 0 where
   -- no 01: nothing to move, or the last beat moves to the second place
@@ -29,9 +47,11 @@ pub data Moved : List ℕ → List ℕ → Type 0 where
   -- the found 1 changes places with the leftmost 0: at the end, before a 1, or before a 0 that may not move
   closes : (p q : ℕ) → Moved (ups p (downs (suc q) (1 ∷ []))) (ups (suc p) (downs (suc q) []))
   lifts : (p q : ℕ) (a : List ℕ) → Moved (ups p (downs (suc q) (1 ∷ 1 ∷ a))) (ups (suc p) (downs (suc q) (1 ∷ a)))
-  levels : (p q : ℕ) (a : List ℕ) → p ≡ suc q → Moved (ups p (downs (suc q) (1 ∷ 0 ∷ a))) (ups (suc p) (downs (suc q) (0 ∷ a)))
+  levels : (p q : ℕ) (a : List ℕ) → p ≡ suc q
+      → Moved (ups p (downs (suc q) (1 ∷ 0 ∷ a))) (ups (suc p) (downs (suc q) (0 ∷ a)))
   -- the 0 after it moves to the second place
-  dips : (p q : ℕ) (a : List ℕ) → suc q ≤ p → Moved (ups (suc p) (downs (suc q) (1 ∷ 0 ∷ a))) (1 ∷ 0 ∷ ups p (downs (suc q) (1 ∷ a)))
+  dips : (p q : ℕ) (a : List ℕ) → suc q ≤ p
+      → Moved (ups (suc p) (downs (suc q) (1 ∷ 0 ∷ a))) (1 ∷ 0 ∷ ups p (downs (suc q) (1 ∷ a)))
 
 -- the shifts
 drop-past : (w : List ℕ) (x : ℕ) (b : List ℕ) → drop (suc (length w)) (w ++ x ∷ b) ≡ b
@@ -42,7 +62,8 @@ shift-at : (w : List ℕ) (x : ℕ) (b : List ℕ) → shift (suc (suc (length w
 unfolding shift
 shift-at w x b = simp (getD-append-seam, take-append-seam, drop-past)
 
-shift-behind : (w : List ℕ) (x : ℕ) (b : List ℕ) → shift (suc (suc (suc (length w)))) (1 ∷ (w ++ 1 ∷ x ∷ b)) ≡ 1 ∷ x ∷ (w ++ 1 ∷ b)
+shift-behind : (w : List ℕ) (x : ℕ) (b : List ℕ)
+    → shift (suc (suc (suc (length w)))) (1 ∷ (w ++ 1 ∷ x ∷ b)) ≡ 1 ∷ x ∷ (w ++ 1 ∷ b)
 shift-behind w x b =
     ap (λ (l : List ℕ). shift (suc (suc (suc (length w)))) (1 ∷ l)) (sym (append-assoc w (1 ∷ []) (x ∷ b)))
     ∙ ap (λ (n : ℕ). shift (suc (suc n)) (1 ∷ ((w ++ (1 ∷ [])) ++ x ∷ b))) (omega (arith, length-append w (1 ∷ [])))
@@ -62,7 +83,9 @@ not-01 b i n = by (is01 b i) refl
 module _ (p q : ℕ) where
   -- among ones, and among zeros, there is none
   early : (c : List ℕ) (j : ℕ) → j < p + q → is01 (ups p (downs (suc q) c)) j ≡ false
-  early c j h = not-01 (ups p (downs (suc q) c)) j (λ z o. elim (decLt j p) [ yes l ↦ omega (arith, z, get-up p j (downs (suc q) c) l) | no l ↦ zero-behind l o ])
+  early c j h =
+      not-01 (ups p (downs (suc q) c)) j
+      (λ z o. elim (decLt j p) [ yes l ↦ omega (arith, z, get-up p j (downs (suc q) c) l) | no l ↦ zero-behind l o ])
     where
       zero-behind : (j < p → ⊥) → getD (ups p (downs (suc q) c)) (suc j) 0 ≡ 1 → ⊥
       zero-behind l o =
@@ -73,12 +96,15 @@ module _ (p q : ℕ) where
   unfolding found
   found-some z =
       let b = ups p (downs (suc q) (1 ∷ z)) in
-      let zero-at : getD b (p + q) 0 ≡ 0 = get-ups p q (p + q) (downs (suc q) (1 ∷ z)) refl ∙ get-down (suc q) q (1 ∷ z) (omega arith) in
+      let zero-at : getD b (p + q) 0 ≡ 0 =
+      get-ups p q (p + q) (downs (suc q) (1 ∷ z)) refl ∙ get-down (suc q) q (1 ∷ z) (omega arith) in
       let one-at : getD b (suc (p + q)) 0 ≡ 1 =
-      get-ups p (suc q) (suc (p + q)) (downs (suc q) (1 ∷ z)) (omega arith) ∙ get-downs (suc q) 0 (suc q) (1 ∷ z) (omega arith) in
+      get-ups p (suc q) (suc (p + q)) (downs (suc q) (1 ∷ z)) (omega arith)
+      ∙ get-downs (suc q) 0 (suc q) (1 ∷ z) (omega arith) in
       ap (λ (i : ℕ). suc (suc i))
       (first-is (is01 b) (length b) (p + q) (omega (arith, shape-length p (suc q) (1 ∷ z)))
-      (and-eq-true-iff (eqb (getD b (p + q) 0) 0) (eqb (getD b (suc (p + q)) 0) 1) .1 (eq-eqb (getD b (p + q) 0) 0 zero-at, eq-eqb (getD b (suc (p + q)) 0) 1 one-at))
+      (and-eq-true-iff (eqb (getD b (p + q) 0) 0) (eqb (getD b (suc (p + q)) 0) 1) .1
+      (eq-eqb (getD b (p + q) 0) 0 zero-at, eq-eqb (getD b (suc (p + q)) 0) 1 one-at))
       (early (1 ∷ z)))
 
 -- ones and zeros alone have no 01
@@ -103,7 +129,9 @@ has01-none p q =
 
 pub has01-some : (p q : ℕ) (z : List ℕ) → has01 (ups p (downs (suc q) (1 ∷ z))) ≡ true
 unfolding has01
-has01-some p q z = le-leb (found (ups p (downs (suc q) (1 ∷ z)))) (length (ups p (downs (suc q) (1 ∷ z)))) (omega (arith, found-some p q z, shape-length p (suc q) (1 ∷ z)))
+has01-some p q z =
+    le-leb (found (ups p (downs (suc q) (1 ∷ z)))) (length (ups p (downs (suc q) (1 ∷ z))))
+    (omega (arith, found-some p q z, shape-length p (suc q) (1 ∷ z)))
 
 -- the next form with no 01
 pub next-stays : (p : ℕ) → next (ups p []) ≡ ups p []
@@ -116,7 +144,8 @@ next-turns p q =
     let b = ups (suc p) (downs (suc q) []) in
     simp (has01-none (suc p) (suc q), lt-ltb 0 (zeros b) (omega (arith, shape-zeros (suc p) (suc q) [])))
     (ap (λ (n : ℕ). shift n b) (omega (arith, shape-length (suc p) (suc q) [], shape-length p q []))
-    ∙ ap (λ (l : List ℕ). shift (suc (suc (length (ups p (downs q []))))) (1 ∷ l)) (ap (ups p) (sym (downs-snoc q [])) ∙ sym (shape-join p q (0 ∷ [])))
+    ∙ ap (λ (l : List ℕ). shift (suc (suc (length (ups p (downs q []))))) (1 ∷ l))
+    (ap (ups p) (sym (downs-snoc q [])) ∙ sym (shape-join p q (0 ∷ [])))
     ∙ shift-at (ups p (downs q [])) 0 []
     ∙ ap (λ (l : List ℕ). 1 ∷ 0 ∷ l) (append-nil (ups p (downs q []))))
 
@@ -128,7 +157,8 @@ same-test false false f g = refl
 
 isSchedule-plays : (t s : ℕ) (c : List ℕ) → ones c ≡ t → zeros c ≡ s → isSchedule t s c ≡ plays 0 c
 isSchedule-plays t s c o z =
-    same-test (isSchedule t s c) (plays 0 c) (λ e. schedule-plays (true-isSchedule t s c e)) (λ e. isSchedule-true t s c (plays-schedule e o z))
+    same-test (isSchedule t s c) (plays 0 c) (λ e. schedule-plays (true-isSchedule t s c e))
+    (λ e. isSchedule-true t s c (plays-schedule e o z))
 
 -- the next form at a 01: w stands between the first beat and the found 1
 module _ (w : List ℕ) where
@@ -155,12 +185,18 @@ module _ (w : List ℕ) where
   moved-zeros (suc x) a = omega (arith, zeros-append w (1 ∷ a), zeros-append w (1 ∷ suc x ∷ a))
 
   next-mid : (x : ℕ) (a : List ℕ) → found (1 ∷ (w ++ 1 ∷ x ∷ a)) ≡ suc (suc (length w))
-      → next (1 ∷ (w ++ 1 ∷ x ∷ a)) ≡ cond (plays 0 (1 ∷ x ∷ (w ++ 1 ∷ a))) (1 ∷ x ∷ (w ++ 1 ∷ a)) (1 ∷ 1 ∷ (w ++ x ∷ a))
+      → next (1 ∷ (w ++ 1 ∷ x ∷ a))
+      ≡ cond (plays 0 (1 ∷ x ∷ (w ++ 1 ∷ a))) (1 ∷ x ∷ (w ++ 1 ∷ a)) (1 ∷ 1 ∷ (w ++ x ∷ a))
   unfolding next has01 movesNext
   next-mid x a e =
       let b : List ℕ = 1 ∷ (w ++ 1 ∷ x ∷ a) in
       let n = length-append w (1 ∷ x ∷ a) in
-      rw (e, shift-at w 1 (x ∷ a), shift-behind w x a, isSchedule-plays (ones b) (zeros b) (1 ∷ x ∷ (w ++ 1 ∷ a)) (moved-ones x a) (moved-zeros x a))
+      rw (
+        e,
+        shift-at w 1 (x ∷ a),
+        shift-behind w x a,
+        isSchedule-plays (ones b) (zeros b) (1 ∷ x ∷ (w ++ 1 ∷ a)) (moved-ones x a) (moved-zeros x a),
+      )
       (simp (
         le-leb (suc (suc (length w))) (suc (length (w ++ 1 ∷ x ∷ a))) (omega arith),
         le-leb (suc (suc (suc (length w)))) (suc (length (w ++ 1 ∷ x ∷ a))) (omega arith),
@@ -168,17 +204,23 @@ module _ (w : List ℕ) where
 
 -- the same, by the shape
 module _ (p q : ℕ) where
-  found-front : (z : List ℕ) → found (1 ∷ (ups p (downs (suc q) []) ++ 1 ∷ z)) ≡ suc (suc (length (ups p (downs (suc q) []))))
-  found-front z = ap (λ (l : List ℕ). found (1 ∷ l)) (shape-join p (suc q) (1 ∷ z)) ∙ omega (arith, found-some (suc p) q z, shape-length p (suc q) [])
+  found-front : (z : List ℕ)
+      → found (1 ∷ (ups p (downs (suc q) []) ++ 1 ∷ z)) ≡ suc (suc (length (ups p (downs (suc q) []))))
+  found-front z =
+      ap (λ (l : List ℕ). found (1 ∷ l)) (shape-join p (suc q) (1 ∷ z))
+      ∙ omega (arith, found-some (suc p) q z, shape-length p (suc q) [])
 
   pub next-closes : next (ups (suc p) (downs (suc q) (1 ∷ []))) ≡ ups (suc (suc p)) (downs (suc q) [])
   next-closes =
-      ap (λ (l : List ℕ). next (1 ∷ l)) (sym (shape-join p (suc q) (1 ∷ []))) ∙ next-last (ups p (downs (suc q) [])) (found-front [])
+      ap (λ (l : List ℕ). next (1 ∷ l)) (sym (shape-join p (suc q) (1 ∷ [])))
+      ∙ next-last (ups p (downs (suc q) [])) (found-front [])
 
   pub next-behind : (x : ℕ) (a : List ℕ) → next (ups (suc p) (downs (suc q) (1 ∷ x ∷ a)))
-      ≡ cond (plays 0 (1 ∷ x ∷ ups p (downs (suc q) (1 ∷ a)))) (1 ∷ x ∷ ups p (downs (suc q) (1 ∷ a))) (ups (suc (suc p)) (downs (suc q) (x ∷ a)))
+      ≡ cond (plays 0 (1 ∷ x ∷ ups p (downs (suc q) (1 ∷ a)))) (1 ∷ x ∷ ups p (downs (suc q) (1 ∷ a)))
+      (ups (suc (suc p)) (downs (suc q) (x ∷ a)))
   next-behind x a =
-      ap (λ (l : List ℕ). next (1 ∷ l)) (sym (shape-join p (suc q) (1 ∷ x ∷ a))) ∙ next-mid (ups p (downs (suc q) [])) x a (found-front (x ∷ a))
+      ap (λ (l : List ℕ). next (1 ∷ l)) (sym (shape-join p (suc q) (1 ∷ x ∷ a)))
+      ∙ next-mid (ups p (downs (suc q) [])) x a (found-front (x ∷ a))
       ∙ simp shape-join
 
 -- each schedule but the empty one begins with a 1, and the rule goes by the shape
@@ -187,9 +229,12 @@ moves-some : (p q : ℕ) (z : List ℕ) (h : ℕ) → p ≡ q + h → plays (suc
 unfolding plays
 moves-some p q [] h e o = rw (next-closes p q) (closes (suc p) q)
 moves-some p q (suc (suc x) ∷ a) h e o = absurd (false≢true o)
-moves-some p q (suc zero ∷ a) h e o = rw (next-behind p q 1 a) (either (plays 0 (ups (suc (suc p)) (downs (suc q) (1 ∷ a)))))
+moves-some p q (suc zero ∷ a) h e o =
+    rw (next-behind p q 1 a) (either (plays 0 (ups (suc (suc p)) (downs (suc q) (1 ∷ a)))))
   where
-    either : (t : Bool) → Moved (ups (suc p) (downs (suc q) (1 ∷ 1 ∷ a))) (cond t (ups (suc (suc p)) (downs (suc q) (1 ∷ a))) (ups (suc (suc p)) (downs (suc q) (1 ∷ a))))
+    either : (t : Bool)
+        → Moved (ups (suc p) (downs (suc q) (1 ∷ 1 ∷ a)))
+        (cond t (ups (suc (suc p)) (downs (suc q) (1 ∷ a))) (ups (suc (suc p)) (downs (suc q) (1 ∷ a))))
     either true = lifts (suc p) q a
     either false = lifts (suc p) q a
 moves-some p q (zero ∷ a) zero e o =

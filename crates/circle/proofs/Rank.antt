@@ -1,10 +1,11 @@
--- The rank of a schedule, by which the circle is counted: a number computed from the last beat towards the first, source 000, section 5.
--- Lists are written last beat first here.
+-- The rank of a schedule, by which the circle is counted: a number computed from the last beat towards the first,
+-- source 000, section 5. Lists are written last beat first here.
 --     raise t s v     the rank with one more 1 after a list of rank v; t, s are the counts with that 1
 --     rank r          the rank; `rankOf b` of a list written first beat first
 --     rank-below      it is below N of the counts
 --     rank-same       two schedules of the same counts with the same rank are equal
--- That the rank is the fewest steps from t ones then s zeros is `rank-fewest` in proofs/Numbers of the crate `number`. Assumes nothing.
+-- That the rank is the fewest steps from t ones then s zeros is `rank-fewest` in proofs/Numbers of the crate
+-- `number`. Assumes nothing.
 use mathlib.Core.List.{List, [], _∷_, reverse}
 use mathlib.Core.Path.{_≡_, refl, _∙_, ap, sym}
 use Prim.Native.Nat.{ℕ, zero, suc, pred, _+_, _-_, _≤_, _<_}
@@ -68,8 +69,12 @@ rank-same (up {r} k) (up {r = q} k') o z n =
     let o' : ones r ≡ ones q = omega arith in
     let c : N (ones r) (zeros r) ≡ N (ones q) (zeros q) = cc in
     ap (λ (l : List ℕ). 1 ∷ l)
-    (rank-same k k' o' z (raise-same (ones r) (zeros r) (rank r) (rank q) (level k) (rank-below k) (omega (arith, rank-below k')) (n ∙ rw (o', z))))
+    (rank-same k k' o' z
+    (raise-same (ones r) (zeros r) (rank r) (rank q) (level k) (rank-below k) (omega (arith, rank-below k'))
+    (n ∙ rw (o', z))))
 rank-same (down {r} h k) (up {r = q} k') o z n =
-    absurd (raise-apart (ones q) (zeros r) (rank r) (rank q) (omega (arith, level k')) (rw (← o) (rank-below k)) (rw z (rank-below k')) (n ∙ rw z))
+    absurd (raise-apart (ones q) (zeros r) (rank r) (rank q) (omega (arith, level k')) (rw (← o) (rank-below k))
+    (rw z (rank-below k')) (n ∙ rw z))
 rank-same (up {r} k) (down {r = q} h k') o z n =
-    absurd (raise-apart (ones r) (zeros q) (rank q) (rank r) (omega (arith, level k)) (rw o (rank-below k')) (rw (← z) (rank-below k)) (sym n ∙ rw z))
+    absurd (raise-apart (ones r) (zeros q) (rank q) (rank r) (omega (arith, level k)) (rw o (rank-below k'))
+    (rw (← z) (rank-below k)) (sym n ∙ rw z))

@@ -1,4 +1,5 @@
--- The changed beats of a whole round: how many forms set down at their second beat, and that a round arrives at each once.
+-- The changed beats of a whole round: how many forms set down at their second beat, and that a
+-- round arrives at each once.
 --     ring n b          where the steps 1 to n from b arrive
 --     Second t s c      c is a schedule of t, s that sets down at its second beat
 --     second-lists      they are the schedules of t−1, s−1 after a 1 and a 0, so N(t−1, s−1) of them
@@ -6,7 +7,18 @@
 --     round-worked      a round changes 2·N(t, s) + 2·N(t−1, s−1) − 2 beats
 -- Assumes nothing.
 use mathlib.Core.Bool.{Bool, true, false, true≢false, false≢true, and-eq-true-iff}
-use mathlib.Core.List.{List, [], _∷_, map, List·Memᴰ, List·Memᴰ·head, List·Memᴰ·tail, List·Memᴰ·cases-cons, List·Memᴰ·not-nil, Memᴰ·cast}
+use mathlib.Core.List.{
+  List,
+  [],
+  _∷_,
+  map,
+  List·Memᴰ,
+  List·Memᴰ·head,
+  List·Memᴰ·tail,
+  List·Memᴰ·cases-cons,
+  List·Memᴰ·not-nil,
+  Memᴰ·cast,
+}
 use mathlib.Core.Logic.{⊎-elim}
 use mathlib.Core.Path.{_≡_, refl, _∙_, ap, sym}
 use Prim.Native.Nat.{ℕ, zero, suc, _+_, _-_, _*_, _≤_}
@@ -19,7 +31,18 @@ use Rattle.triangle.specs.Count.{N}
 use Rattle.schedule.specs.Schedule.{ones, zeros, Schedule, Lists}
 use Rattle.schedule.proofs.Hand.{plays, plays-schedule, schedule-plays, schedule-zeros, schedule-le}
 use Rattle.schedule.proofs.Pigeonhole.{lists-length}
-use Rattle.schedule.proofs.Distinct.{Distinct, nothing, more, distinct-lists, keep, tally, keep-length, keep-mem, mem-keep, keep-distinct}
+use Rattle.schedule.proofs.Distinct.{
+  Distinct,
+  nothing,
+  more,
+  distinct-lists,
+  keep,
+  tally,
+  keep-length,
+  keep-mem,
+  mem-keep,
+  keep-distinct,
+}
 use Rattle.schedule.proofs.Listing.{map-lists, schedules, schedules-length, schedules-lists}
 use Rattle.circle.specs.Step.{next, top}
 use Rattle.circle.specs.Walk.{steps, changed, worked, isDip, dips}
@@ -36,7 +59,9 @@ ring (suc n) b = steps (suc n) b ∷ ring n b
 ring-mem : (n : ℕ) (b x : List ℕ) → List·Memᴰ x (ring n b) → (j : ℕ) × (1 ≤ j) × (j ≤ n) × (x ≡ steps j b)
 unfolding ring
 ring-mem zero b x m = absurd (List·Memᴰ·not-nil m)
-ring-mem (suc n) b x m = ⊎-elim (λ here. (suc n, omega arith, omega arith, here)) (λ later. wider (ring-mem n b x later)) (List·Memᴰ·cases-cons m)
+ring-mem (suc n) b x m =
+    ⊎-elim (λ here. (suc n, omega arith, omega arith, here)) (λ later. wider (ring-mem n b x later))
+    (List·Memᴰ·cases-cons m)
   where
     wider : (j : ℕ) × (1 ≤ j) × (j ≤ n) × (x ≡ steps j b) → (j : ℕ) × (1 ≤ j) × (j ≤ suc n) × (x ≡ steps j b)
     wider w = (w .0, w .1, omega (arith, w .2), w .3)
@@ -88,17 +113,20 @@ module _ (t s : ℕ) where
   from-behind : (c : List ℕ) → Second (suc t) (suc s) c → (d : List ℕ) × Schedule t s d × (1 ∷ 0 ∷ d ≡ c)
   from-behind c q = by c (schedule-plays (q .form)) (q .form .taken) (schedule-zeros (q .form)) (q .sets-down)
     where
-      by : (c : List ℕ) → plays 0 c ≡ true → ones c ≡ suc t → zeros c ≡ suc s → getD c 1 0 ≡ 0 → (d : List ℕ) × Schedule t s d × (1 ∷ 0 ∷ d ≡ c)
+      by : (c : List ℕ) → plays 0 c ≡ true → ones c ≡ suc t → zeros c ≡ suc s → getD c 1 0 ≡ 0
+          → (d : List ℕ) × Schedule t s d × (1 ∷ 0 ∷ d ≡ c)
       by [] o u z e = unfold ones in absurd (omega arith)
       by (zero ∷ c) o u z e = unfold plays in absurd (false≢true o)
       by (suc (suc x) ∷ c) o u z e = unfold plays in absurd (false≢true o)
       by (suc zero ∷ []) o u z e = unfold zeros in absurd (omega arith)
       by (suc zero ∷ suc x ∷ c) o u z e = absurd (omega arith)
-      by (suc zero ∷ zero ∷ c) o u z e = unfold plays ones zeros in (c, plays-schedule o (omega arith) (omega arith), refl)
+      by (suc zero ∷ zero ∷ c) o u z e = unfold plays ones zeros in
+          (c, plays-schedule o (omega arith) (omega arith), refl)
 
   second-lists : Lists (Second (suc t) (suc s)) (map (λ (d : List ℕ). 1 ∷ 0 ∷ d) (schedules t s))
   second-lists =
-      map-lists (Schedule t s) (Second (suc t) (suc s)) (λ (d : List ℕ). 1 ∷ 0 ∷ d) behind from-behind (λ x y e. cc) (schedules t s) (schedules-lists t s)
+      map-lists (Schedule t s) (Second (suc t) (suc s)) (λ (d : List ℕ). 1 ∷ 0 ∷ d) behind from-behind (λ x y e. cc)
+      (schedules t s) (schedules-lists t s)
 
 -- the form after t ones and s zeros sets down at its second beat
 after-top : (t s : ℕ) → getD (next (top (suc t) (suc s))) 1 0 ≡ 0
@@ -112,7 +140,10 @@ module _ (t s : ℕ) {b : List ℕ} (p : Schedule (suc t) (suc s) b) where
   dipping = keep (isDip (suc t) (suc s)) (ring (N (suc t) (suc s)) b)
 
   first-second : Second (suc t) (suc s) first
-  first-second = record { form = next-schedule (top-schedule (suc t) (suc s) (schedule-le p)); sets-down = after-top t s }
+  first-second = record {
+    form = next-schedule (top-schedule (suc t) (suc s) (schedule-le p));
+    sets-down = after-top t s;
+  }
 
   -- what sets down at its second beat is a dip, or is the form after t ones and s zeros
   dip-or-first : (x : List ℕ) → Second (suc t) (suc s) x → List·Memᴰ x (first ∷ dipping)
@@ -124,29 +155,41 @@ module _ (t s : ℕ) {b : List ℕ} (p : Schedule (suc t) (suc s) b) where
           List·Memᴰ·tail (mem-keep (isDip (suc t) (suc s)) (ring (N (suc t) (suc s)) b) x (ring-complete p x (q .form))
           (and-eq-true-iff (eqb (getD x 1 0) 0) (ltb 0 (changed x first)) .1 (eq-eqb (getD x 1 0) 0 (q .sets-down), e)))
       by false e =
-          List·Memᴰ·head (changed-same x first (q .form .size ∙ sym (first-second .form .size)) (omega (arith, ltb-false 0 (changed x first) e)))
+          List·Memᴰ·head
+          (changed-same x first (q .form .size ∙ sym (first-second .form .size))
+          (omega (arith, ltb-false 0 (changed x first) e)))
 
   dipping-second : (x : List ℕ) → List·Memᴰ x (first ∷ dipping) → Second (suc t) (suc s) x
   unfolding isDip
-  dipping-second x m = ⊎-elim (λ here. rw here first-second) (λ later. kept (keep-mem (isDip (suc t) (suc s)) (ring (N (suc t) (suc s)) b) x later)) (List·Memᴰ·cases-cons m)
+  dipping-second x m =
+      ⊎-elim (λ here. rw here first-second)
+      (λ later. kept (keep-mem (isDip (suc t) (suc s)) (ring (N (suc t) (suc s)) b) x later)) (List·Memᴰ·cases-cons m)
     where
       kept : List·Memᴰ x (ring (N (suc t) (suc s)) b) × (isDip (suc t) (suc s) x ≡ true) → Second (suc t) (suc s) x
       kept w =
           record {
             form = ring-sound p x (w .0);
-            sets-down = eqb-true (getD x 1 0) 0 (and-eq-true-iff (eqb (getD x 1 0) 0) (ltb 0 (changed x first)) .0 (w .1) .0);
+            sets-down =
+                eqb-true (getD x 1 0) 0 (and-eq-true-iff (eqb (getD x 1 0) 0) (ltb 0 (changed x first)) .0 (w .1) .0);
           }
 
   first-once : List·Memᴰ first dipping → ⊥
   first-once m =
       true≢false
-      (sym (keep-mem (isDip (suc t) (suc s)) (ring (N (suc t) (suc s)) b) first m .1) ∙ not-other (suc t) (suc s) first (after-top t s) refl)
+      (sym (keep-mem (isDip (suc t) (suc s)) (ring (N (suc t) (suc s)) b) first m .1)
+      ∙ not-other (suc t) (suc s) first (after-top t s) refl)
 
   round-dips : suc (dips (suc t) (suc s) (N (suc t) (suc s)) b) ≡ N t s
   round-dips =
-      let listed = distinct-lists (Second (suc t) (suc s)) (first ∷ dipping) (more first-once (keep-distinct (isDip (suc t) (suc s)) (ring-distinct p (N (suc t) (suc s)) (omega arith)))) dipping-second dip-or-first in
-      ap suc (sym (keep-length (isDip (suc t) (suc s)) (ring (N (suc t) (suc s)) b) ∙ tally-ring (suc t) (suc s) (N (suc t) (suc s)) b))
-      ∙ lists-length (Second (suc t) (suc s)) (first ∷ dipping) (map (λ (d : List ℕ). 1 ∷ 0 ∷ d) (schedules t s)) listed (second-lists t s)
+      let listed =
+      distinct-lists (Second (suc t) (suc s)) (first ∷ dipping)
+      (more first-once (keep-distinct (isDip (suc t) (suc s)) (ring-distinct p (N (suc t) (suc s)) (omega arith))))
+      dipping-second dip-or-first in
+      ap suc
+      (sym (keep-length (isDip (suc t) (suc s)) (ring (N (suc t) (suc s)) b)
+      ∙ tally-ring (suc t) (suc s) (N (suc t) (suc s)) b))
+      ∙ lists-length (Second (suc t) (suc s)) (first ∷ dipping) (map (λ (d : List ℕ). 1 ∷ 0 ∷ d) (schedules t s)) listed
+      (second-lists t s)
       ∙ length-map (schedules t s) (λ (d : List ℕ). 1 ∷ 0 ∷ d)
       ∙ schedules-length t s
 

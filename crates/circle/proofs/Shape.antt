@@ -63,13 +63,15 @@ downs-plays zero h c = ap (λ (k : ℕ). plays k c) (zero-add h)
 downs-plays (suc q) h c = ap (λ (k : ℕ). plays k (downs (suc q) c)) (suc-add q h) ∙ downs-plays q h c
 
 -- with k in hand after them the rest plays
-pub plays-shape : (p q : ℕ) (c : List ℕ) → plays 0 (ups p (downs q c)) ≡ true → (k : ℕ) × (p ≡ q + k) × (plays k c ≡ true)
+pub plays-shape : (p q : ℕ) (c : List ℕ) → plays 0 (ups p (downs q c)) ≡ true
+    → (k : ℕ) × (p ≡ q + k) × (plays k c ≡ true)
 plays-shape p q c o =
     let r = plays-downs q (p + 0) c (sym (plays-ups p 0 (downs q c)) ∙ o) in
     (r .0, omega (arith, r .1), r .2)
 
 pub shape-plays : (p q k : ℕ) (c : List ℕ) → p ≡ q + k → plays 0 (ups p (downs q c)) ≡ plays k c
-shape-plays p q k c e = plays-ups p 0 (downs q c) ∙ ap (λ (h : ℕ). plays h (downs q c)) (omega arith) ∙ downs-plays q k c
+shape-plays p q k c e =
+    plays-ups p 0 (downs q c) ∙ ap (λ (h : ℕ). plays h (downs q c)) (omega arith) ∙ downs-plays q k c
 
 pub shape-short : (p q : ℕ) (c : List ℕ) → p < q → plays 0 (ups p (downs q c)) ≡ false
 shape-short p q c h = by (plays 0 (ups p (downs q c))) refl

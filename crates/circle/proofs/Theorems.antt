@@ -4,7 +4,8 @@
 --     circle                for every two forms there is that one number of steps [D3b]
 --     circle-start-last     from a form to itself it is N(t, s): the start is met last [D3c]
 --     dip-means, means-dip  a dip sets down at its second beat and is not the form after t ones and s zeros [D3e]
---     step-changes          from two ones and one zero on, a step changes 2 beats, and 4 exactly if it arrives at a dip [D3d] [O1b]
+--     step-changes          from two ones and one zero on, a step changes 2 beats, and 4 exactly if it
+--                           arrives at a dip [D3d] [O1b]
 --     one-form              with at most one 1 or no zeros there is one form, and [O1c]
 --     one-form-changes      a step changes none [O1c]
 --     stretch-changes       k steps change 2k beats and two more for each dip [D3e]
@@ -65,19 +66,25 @@ module _ {t s : ℕ} {a : List ℕ} (p : Schedule t s a) where
 pub dip-means : (t s : ℕ) (c : List ℕ) → isDip t s c ≡ true → (getD c 1 0 ≡ 0) × (c ≡ next (top t s) → ⊥)
 unfolding isDip
 dip-means t s c e =
-    let both = and-eq-true-iff (eqb (getD c 1 0) 0) (ltb 0 (changed c (next (top t s)))) .0 e in
-    (eqb-true (getD c 1 0) 0 (both .0), λ same. omega (arith, ltb-true 0 (changed c (next (top t s))) (both .1), ap (changed c) (sym same), changed-self c))
+    let both = and-eq-true-iff (eqb (getD c 1 0) 0) (ltb 0 (changed c (next (top t s)))) .0 e in (
+      eqb-true (getD c 1 0) 0 (both .0),
+      λ same.
+          omega (arith, ltb-true 0 (changed c (next (top t s))) (both .1), ap (changed c) (sym same), changed-self c),
+    )
 
-pub means-dip : (t s : ℕ) (c : List ℕ) → length c ≡ length (next (top t s)) → getD c 1 0 ≡ 0 → (c ≡ next (top t s) → ⊥) → isDip t s c ≡ true
+pub means-dip : (t s : ℕ) (c : List ℕ) → length c ≡ length (next (top t s)) → getD c 1 0 ≡ 0 → (c ≡ next (top t s) → ⊥)
+    → isDip t s c ≡ true
 means-dip t s c n z e = is-dip t s c z n e
 
 module _ {t s : ℕ} (two : 2 ≤ t) (one : 1 ≤ s) where
   module _ {b : List ℕ} (p : Schedule t s b) where
-    pub step-changes : ((changed b (next b) ≡ 4) × (isDip t s (next b) ≡ true)) ⊎ ((changed b (next b) ≡ 2) × (isDip t s (next b) ≡ false))
+    pub step-changes : ((changed b (next b) ≡ 4) × (isDip t s (next b) ≡ true))
+        ⊎ ((changed b (next b) ≡ 2) × (isDip t s (next b) ≡ false))
     step-changes = by (isDip t s (next b)) refl (next-changed two one p)
       where
         by : (d : Bool) → isDip t s (next b) ≡ d → changed b (next b) ≡ 2 + 2 * cond (isDip t s (next b)) 1 0
-            → ((changed b (next b) ≡ 4) × (isDip t s (next b) ≡ true)) ⊎ ((changed b (next b) ≡ 2) × (isDip t s (next b) ≡ false))
+            → ((changed b (next b) ≡ 4) × (isDip t s (next b) ≡ true))
+            ⊎ ((changed b (next b) ≡ 2) × (isDip t s (next b) ≡ false))
         by true e q = inl (q ∙ rw e, e)
         by false e q = inr (q ∙ rw e, e)
 
@@ -95,7 +102,8 @@ module _ {t s : ℕ} (two : 2 ≤ t) (one : 1 ≤ s) where
 N-one : (t s : ℕ) → s ≤ t → (t ≤ 1) ⊎ (s ≡ 0) → N t s ≡ 1
 N-one t zero h k = N-zero t
 N-one zero (suc s) h k = absurd (omega arith)
-N-one (suc zero) (suc zero) h k = N-add 0 0 (omega arith) ∙ ap₂ (λ (x y : ℕ). x + y) (N-over 0 1 (omega arith)) (N-zero 1)
+N-one (suc zero) (suc zero) h k =
+    N-add 0 0 (omega arith) ∙ ap₂ (λ (x y : ℕ). x + y) (N-over 0 1 (omega arith)) (N-zero 1)
 N-one (suc zero) (suc (suc s)) h k = absurd (omega arith)
 N-one (suc (suc t)) (suc s) h (inl few) = absurd (omega arith)
 N-one (suc (suc t)) (suc s) h (inr empty) = absurd (omega arith)

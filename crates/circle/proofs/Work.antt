@@ -1,5 +1,6 @@
 -- The changed beats of one step, by the shape of the schedule.
---     changed-self, changed-same    a list differs from itself nowhere, and lists of one length that differ nowhere are equal
+--     changed-self, changed-same    a list differs from itself nowhere, and lists of one length that
+--                                   differ nowhere are equal
 --     changed-le                    there are no more changed beats than beats
 --     Work b c                      how many beats a step from b to c changes, and what says so
 --     next-work                     the work of the next form
@@ -61,7 +62,9 @@ changed-downs (suc q) c d = omega (arith, changed-downs q c d)
 past-zeros : (q : ℕ) (z : List ℕ) → changed (downs q (1 ∷ z)) (0 ∷ downs q z) ≡ 1
 unfolding changed
 past-zeros q z =
-    ap (changed (downs q (1 ∷ z))) (sym (downs-snoc q z)) ∙ changed-downs q (1 ∷ z) (0 ∷ z) ∙ omega (arith, changed-self z)
+    ap (changed (downs q (1 ∷ z))) (sym (downs-snoc q z))
+    ∙ changed-downs q (1 ∷ z) (0 ∷ z)
+    ∙ omega (arith, changed-self z)
 
 changed-swap : (p q : ℕ) (z : List ℕ) → changed (ups p (downs (suc q) (1 ∷ z))) (ups (suc p) (downs (suc q) z)) ≡ 2
 unfolding changed
@@ -73,10 +76,13 @@ changed-swap p q z =
 changed-turn : (p q : ℕ) → changed (ups (suc (suc p)) (downs (suc q) [])) (1 ∷ 0 ∷ ups (suc p) (downs q [])) ≡ 2
 unfolding changed
 changed-turn p q =
-    let rest = ap (changed (ups p (downs (suc q) []))) (sym (ups-snoc p (downs q []))) ∙ changed-ups p (downs (suc q) []) (1 ∷ downs q []) in
+    let rest =
+    ap (changed (ups p (downs (suc q) []))) (sym (ups-snoc p (downs q [])))
+    ∙ changed-ups p (downs (suc q) []) (1 ∷ downs q []) in
     omega (arith, rest, changed-self (downs q []))
 
-changed-dip : (p q : ℕ) (a : List ℕ) → changed (ups (suc (suc p)) (downs (suc q) (1 ∷ 0 ∷ a))) (1 ∷ 0 ∷ ups (suc p) (downs (suc q) (1 ∷ a))) ≡ 4
+changed-dip : (p q : ℕ) (a : List ℕ)
+    → changed (ups (suc (suc p)) (downs (suc q) (1 ∷ 0 ∷ a))) (1 ∷ 0 ∷ ups (suc p) (downs (suc q) (1 ∷ a))) ≡ 4
 unfolding changed
 changed-dip p q a =
     let front =
@@ -94,9 +100,11 @@ pub data Work (b c : List ℕ) : Type 0 where
   -- from t ones then s zeros, t at least 2: the last beat comes to the second place
   turn : (p q : ℕ) → b ≡ ups (suc (suc p)) (downs (suc q) []) → c ≡ 1 ∷ 0 ∷ ups (suc p) (downs q []) → Work b c
   -- a 0 and a 1 change places, and the form begins with two ones
-  swap : (p q : ℕ) (z : List ℕ) → b ≡ ups (suc p) (downs (suc q) (1 ∷ z)) → c ≡ ups (suc (suc p)) (downs (suc q) z) → Work b c
+  swap : (p q : ℕ) (z : List ℕ) → b ≡ ups (suc p) (downs (suc q) (1 ∷ z)) → c ≡ ups (suc (suc p)) (downs (suc q) z)
+      → Work b c
   -- two of each do, and the form sets down at its second beat
-  dip : (p q : ℕ) (a : List ℕ) → b ≡ ups (suc (suc p)) (downs (suc q) (1 ∷ 0 ∷ a)) → c ≡ 1 ∷ 0 ∷ ups (suc p) (downs (suc q) (1 ∷ a)) → Work b c
+  dip : (p q : ℕ) (a : List ℕ) → b ≡ ups (suc (suc p)) (downs (suc q) (1 ∷ 0 ∷ a))
+      → c ≡ 1 ∷ 0 ∷ ups (suc p) (downs (suc q) (1 ∷ a)) → Work b c
 
 moved-work : {b c : List ℕ} → Moved b c → plays 0 b ≡ true → Work b c
 unfolding plays ones zeros
@@ -116,11 +124,14 @@ moved-work (dips (suc p) q a h) o = dip p q a refl refl
 pub next-work : (b : List ℕ) → plays 0 b ≡ true → Work b (next b)
 next-work b o = moved-work (next-moves b o) o
 
-pub turn-two : {b c : List ℕ} (p q : ℕ) → b ≡ ups (suc (suc p)) (downs (suc q) []) → c ≡ 1 ∷ 0 ∷ ups (suc p) (downs q []) → changed b c ≡ 2
+pub turn-two : {b c : List ℕ} (p q : ℕ) → b ≡ ups (suc (suc p)) (downs (suc q) [])
+    → c ≡ 1 ∷ 0 ∷ ups (suc p) (downs q []) → changed b c ≡ 2
 turn-two p q e f = rw (e, f) (changed-turn p q)
 
-pub swap-two : {b c : List ℕ} (p q : ℕ) (z : List ℕ) → b ≡ ups (suc p) (downs (suc q) (1 ∷ z)) → c ≡ ups (suc (suc p)) (downs (suc q) z) → changed b c ≡ 2
+pub swap-two : {b c : List ℕ} (p q : ℕ) (z : List ℕ) → b ≡ ups (suc p) (downs (suc q) (1 ∷ z))
+    → c ≡ ups (suc (suc p)) (downs (suc q) z) → changed b c ≡ 2
 swap-two p q z e f = rw (e, f) (changed-swap (suc p) q z)
 
-pub dip-four : {b c : List ℕ} (p q : ℕ) (a : List ℕ) → b ≡ ups (suc (suc p)) (downs (suc q) (1 ∷ 0 ∷ a)) → c ≡ 1 ∷ 0 ∷ ups (suc p) (downs (suc q) (1 ∷ a)) → changed b c ≡ 4
+pub dip-four : {b c : List ℕ} (p q : ℕ) (a : List ℕ) → b ≡ ups (suc (suc p)) (downs (suc q) (1 ∷ 0 ∷ a))
+    → c ≡ 1 ∷ 0 ∷ ups (suc p) (downs (suc q) (1 ∷ a)) → changed b c ≡ 4
 dip-four p q a e f = rw (e, f) (changed-dip p q a)

@@ -1,4 +1,5 @@
--- What a count of forms answers, the manual, "How many forms" and "Refusal numbers". One of the three holds of every t and s [R3].
+-- What a count of forms answers, the manual, "How many forms" and "Refusal numbers". One of the three
+-- holds of every t and s [R3].
 --     beats-at-most       allowed counts have no more beats than the longest schedule [A5]
 --     count-forms         allowed counts: N(t, s) [R3]
 --     count-too-many      refusal 1 for t above the largest count [D1b] [R3]

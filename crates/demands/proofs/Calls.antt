@@ -29,28 +29,51 @@ use Rattle.record.specs.declared.reading.Reading.{Reading}
 use Rattle.reader.specs.Answers.{readAnswer}
 use Rattle.record.specs.Parts as said
 use Rattle.reader.proofs.Verdicts.{told-verdict}
-use Rattle.demands.specs.Calls.{Call, count, check, next, changed, run, run-changed, number, form, form-on-sheet, tree, schedule-of-tree, read, write, lent, Says, Gives, silenced}
+use Rattle.demands.specs.Calls.{
+  Call,
+  count,
+  check,
+  next,
+  changed,
+  run,
+  run-changed,
+  number,
+  form,
+  form-on-sheet,
+  tree,
+  schedule-of-tree,
+  read,
+  write,
+  lent,
+  Says,
+  Gives,
+  silenced,
+}
 
 -- a refused call leaves what was lent
 still : {why : Refusal} (v : Verdict) → Verdict.Refused why ≡ v → (done lent : List ℕ) → left v done lent ≡ lent
 still Verdict.Accepted e done l = let z : _≡_ {A = ℕ} 0 1 = cc in absurd (omega arith)
 still (Verdict.Refused why) e done l = refl
 
-tree-kept : {n : ℕ} {b l r p x y z : List ℕ} {why : Refusal} (v : Verdict) → Verdict.Refused why ≡ v → Treed n b l r p v x y z → (x ≡ l) × (y ≡ r) × (z ≡ p)
+tree-kept : {n : ℕ} {b l r p x y z : List ℕ} {why : Refusal} (v : Verdict) → Verdict.Refused why ≡ v
+    → Treed n b l r p v x y z → (x ≡ l) × (y ≡ r) × (z ≡ p)
 tree-kept v e (filled a q) = let z : _≡_ {A = ℕ} 0 1 = cc in absurd (omega arith)
 tree-kept v e (kept a) = (refl, refl, refl)
 
-back-kept : {n : ℕ} {l r p b c : List ℕ} {why : Refusal} (v : Verdict) → Verdict.Refused why ≡ v → Untreed n l r p b v c → c ≡ b
+back-kept : {n : ℕ} {l r p b c : List ℕ} {why : Refusal} (v : Verdict) → Verdict.Refused why ≡ v → Untreed n l r p b v c
+    → c ≡ b
 back-kept v e (found a q) = let z : _≡_ {A = ℕ} 0 1 = cc in absurd (omega arith)
 back-kept v e (none a q) = refl
 back-kept v e (unfit a) = refl
 
-pub call-unchanged : (c : Call) (why : Refusal) (m : List ℕ) (x : List (List ℕ)) → Gives c (Verdict.Refused why) m x → x ≡ lent c
+pub call-unchanged : (c : Call) (why : Refusal) (m : List ℕ) (x : List (List ℕ)) → Gives c (Verdict.Refused why) m x
+    → x ≡ lent c
 call-unchanged (count t s) why m x g = g .1
 call-unchanged (check t s b) why m x g = g .1
 call-unchanged (next t s b) why m x g =
     let v = checked t s b in
-    g .1 ∙ ap (λ (l : List ℕ). l ∷ []) (still v (g .0 .0 ∙ verdict-answer v (walk.changed b (rule.next b))) (rule.next b) b)
+    g .1
+    ∙ ap (λ (l : List ℕ). l ∷ []) (still v (g .0 .0 ∙ verdict-answer v (walk.changed b (rule.next b))) (rule.next b) b)
 call-unchanged (changed t s b) why m x g = g .1
 call-unchanged (run t s b k) why m x g =
     let v = judge (runRows t s b k) in
@@ -58,10 +81,14 @@ call-unchanged (run t s b k) why m x g =
 call-unchanged (run-changed t s b k) why m x g = g .1
 call-unchanged (number t s b) why m x g = g .1
 call-unchanged (form t s n out) why m x g = g .1 ∙ ap (λ (l : List ℕ). l ∷ []) (still _ (g .0 .0) _ out)
-call-unchanged (form-on-sheet t s n sheet column) why m x g = g .1 ∙ ap (λ (l : List ℕ). l ∷ []) (still _ (g .0 .0) _ sheet)
+call-unchanged (form-on-sheet t s n sheet column) why m x g =
+    g .1 ∙ ap (λ (l : List ℕ). l ∷ []) (still _ (g .0 .0) _ sheet)
 call-unchanged (tree n b l r p) why m x g =
     let same = tree-kept (Verdict.Refused why) refl (g .3) in
-    g .5 ∙ ap (λ (w : List ℕ). b ∷ w ∷ g .1 ∷ g .2 ∷ []) (same .0) ∙ ap (λ (w : List ℕ). b ∷ l ∷ w ∷ g .2 ∷ []) (same .1) ∙ ap (λ (w : List ℕ). b ∷ l ∷ r ∷ w ∷ []) (same .2)
+    g .5
+    ∙ ap (λ (w : List ℕ). b ∷ w ∷ g .1 ∷ g .2 ∷ []) (same .0)
+    ∙ ap (λ (w : List ℕ). b ∷ l ∷ w ∷ g .2 ∷ []) (same .1)
+    ∙ ap (λ (w : List ℕ). b ∷ l ∷ r ∷ w ∷ []) (same .2)
 call-unchanged (schedule-of-tree n l r p out) why m x g =
     g .3 ∙ ap (λ (w : List ℕ). l ∷ r ∷ p ∷ w ∷ []) (back-kept (Verdict.Refused why) refl (g .1))
 call-unchanged (read src out) why m x g =
@@ -83,7 +110,8 @@ no-value (Answer.Refused r) why m q i = ap (λ (l : List ℕ). getD l i 0) (q .1
 no-numbers : (m : List ℕ) → m ≡ [] → (i : ℕ) → getD m i 0 ≡ 0
 no-numbers m e i = ap (λ (l : List ℕ). getD l i 0) e
 
-pub call-silent : (c : Call) (why : Refusal) (m : List ℕ) (x : List (List ℕ)) → Gives c (Verdict.Refused why) m x → (i : ℕ) → getD (silenced c m) i 0 ≡ 0
+pub call-silent : (c : Call) (why : Refusal) (m : List ℕ) (x : List (List ℕ)) → Gives c (Verdict.Refused why) m x
+    → (i : ℕ) → getD (silenced c m) i 0 ≡ 0
 call-silent (count t s) why m x g i = no-value (counting t s) why m (g .0) i
 call-silent (check t s b) why m x g i = no-numbers m (g .0 .1) i
 call-silent (next t s b) why m x g i = no-value (nextAnswer t s b) why m (g .0) i
@@ -103,16 +131,19 @@ call-silent (read src out) why m x g i = by (readAnswer src out) (g .0 .0) (g .0
     zeros (suc (suc zero)) = refl
     zeros (suc (suc (suc i))) = refl
 
-    by : (a : Reading) → Verdict.Refused why ≡ said.verdict a → m ≡ said.t a ∷ said.s a ∷ said.number a ∷ said.consumed a ∷ [] → getD (take 3 m) i 0 ≡ 0
+    by : (a : Reading) → Verdict.Refused why ≡ said.verdict a
+        → m ≡ said.t a ∷ said.s a ∷ said.number a ∷ said.consumed a ∷ [] → getD (take 3 m) i 0 ≡ 0
     by (Reading.Accepted o) e f = let z : _≡_ {A = ℕ} 0 1 = cc in absurd (omega arith)
     by (Reading.Refused r n) e f = ap (λ (l : List ℕ). getD (take 3 l) i 0) f ∙ zeros i
 call-silent (write kind t s b out) why m x g i = no-value (writeAnswer kind t s b out) why m (g .0) i
 
 -- no second answer
-same : {v w a : Verdict} {m k n : List ℕ} {x y z : List (List ℕ)} → ((v ≡ a) × (m ≡ n)) × (x ≡ z) → ((w ≡ a) × (k ≡ n)) × (y ≡ z) → (v ≡ w) × (m ≡ k) × (x ≡ y)
+same : {v w a : Verdict} {m k n : List ℕ} {x y z : List (List ℕ)} → ((v ≡ a) × (m ≡ n)) × (x ≡ z)
+    → ((w ≡ a) × (k ≡ n)) × (y ≡ z) → (v ≡ w) × (m ≡ k) × (x ≡ y)
 same g h = (g .0 .0 ∙ sym (h .0 .0), g .0 .1 ∙ sym (h .0 .1), g .1 ∙ sym (h .1))
 
-pub call-one : (c : Call) (v w : Verdict) (m k : List ℕ) (x y : List (List ℕ)) → Gives c v m x → Gives c w k y → (v ≡ w) × (m ≡ k) × (x ≡ y)
+pub call-one : (c : Call) (v w : Verdict) (m k : List ℕ) (x y : List (List ℕ)) → Gives c v m x → Gives c w k y
+    → (v ≡ w) × (m ≡ k) × (x ≡ y)
 call-one (count t s) v w m k x y g h = same g h
 call-one (check t s b) v w m k x y g h = same g h
 call-one (next t s b) v w m k x y g h = same g h
@@ -123,8 +154,15 @@ call-one (number t s b) v w m k x y g h = same g h
 call-one (form t s n out) v w m k x y g h = same g h
 call-one (form-on-sheet t s n sheet column) v w m k x y g h = same g h
 call-one (tree n b l r p) v w m k x y g h =
-    let same = treed-one (g .3) (h .3) in
-    (same .0, g .4 ∙ sym (h .4), g .5 ∙ ap (λ (a : List ℕ). b ∷ a ∷ g .1 ∷ g .2 ∷ []) (same .1) ∙ ap (λ (a : List ℕ). b ∷ h .0 ∷ a ∷ g .2 ∷ []) (same .2) ∙ ap (λ (a : List ℕ). b ∷ h .0 ∷ h .1 ∷ a ∷ []) (same .3) ∙ sym (h .5))
+    let same = treed-one (g .3) (h .3) in (
+      same .0,
+      g .4 ∙ sym (h .4),
+      g .5
+          ∙ ap (λ (a : List ℕ). b ∷ a ∷ g .1 ∷ g .2 ∷ []) (same .1)
+          ∙ ap (λ (a : List ℕ). b ∷ h .0 ∷ a ∷ g .2 ∷ []) (same .2)
+          ∙ ap (λ (a : List ℕ). b ∷ h .0 ∷ h .1 ∷ a ∷ []) (same .3)
+          ∙ sym (h .5),
+    )
 call-one (schedule-of-tree n l r p out) v w m k x y g h =
     let same = untreed-one (g .1) (h .1) in
     (same .0, g .2 ∙ sym (h .2), g .3 ∙ ap (λ (a : List ℕ). l ∷ r ∷ p ∷ a ∷ []) (same .1) ∙ sym (h .3))

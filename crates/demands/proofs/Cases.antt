@@ -18,11 +18,51 @@ use Rattle.refusal.specs.declared.Verdict.{Verdict}
 use Rattle.circle.specs.Step.{top}
 use Rattle.circle.proofs.Circle.{top-schedule}
 use Rattle.record.specs.Bytes.{lowFirst, valueOf}
-use Rattle.demands.specs.Calls.{count, check, form-on-sheet, read, write, lent, Says, Gives, silenced, CountsOf, of-count, of-check, of-next, of-run, BeatsOf, in-check, Owed, beats}
-use Rattle.demands.specs.Demands.{Wrong, counts-above, sheet-short, places-few, room-short, size-numbered, Demand2, Demand3, Demand3All}
+use Rattle.demands.specs.Calls.{
+  count,
+  check,
+  form-on-sheet,
+  read,
+  write,
+  lent,
+  Says,
+  Gives,
+  silenced,
+  CountsOf,
+  of-count,
+  of-check,
+  of-next,
+  of-run,
+  BeatsOf,
+  in-check,
+  Owed,
+  beats,
+}
+use Rattle.demands.specs.Demands.{
+  Wrong,
+  counts-above,
+  sheet-short,
+  places-few,
+  room-short,
+  size-numbered,
+  Demand2,
+  Demand3,
+  Demand3All,
+}
 use Rattle.demands.proofs.Accepted.{accepted-counts, accepted-beats, accepted-owed, call-refused}
 use Rattle.demands.proofs.Demands.{demands}
-use Rattle.demands.specs.Examples.{InOrder, Changing, Numbering, Holds, counts, follows, changes, rounds, numbers, links}
+use Rattle.demands.specs.Examples.{
+  InOrder,
+  Changing,
+  Numbering,
+  Holds,
+  counts,
+  follows,
+  changes,
+  rounds,
+  numbers,
+  links,
+}
 
 -- 110, then 101; not 110 again
 in-order : InOrder (1 ∷ 1 ∷ 0 ∷ []) ((1 ∷ 1 ∷ 0 ∷ []) ∷ (1 ∷ 0 ∷ 1 ∷ []) ∷ [])
@@ -129,8 +169,8 @@ owed-2 p = omega (arith, accepted-owed [] ((1 ∷ []) ∷ []) p checks-1)
 wrong-200 : Wrong (count 200 0)
 wrong-200 = counts-above {t = 200} {s = 0} of-count (omega arith)
 
--- lengths that are wrong: a sheet of four bytes for five beats, 63 places to read into, 13 bytes for a record of 14, and a record with L = 13
--- that is of kind 1
+-- lengths that are wrong: a sheet of four bytes for five beats, 63 places to read into, 13 bytes for a record of 14,
+-- and a record with L = 13 that is of kind 1
 wrong-sheet : Wrong (form-on-sheet 3 2 0 (0 ∷ 0 ∷ 0 ∷ 0 ∷ []) 0)
 wrong-sheet = sheet-short {t = 3} {s = 2} {sheet = 0 ∷ 0 ∷ 0 ∷ 0 ∷ []} {column = 0} (omega arith)
 
@@ -153,13 +193,20 @@ demand-2-3 : Demand2 3 2
 demand-2-3 = demands .second 3 2 (omega arith, omega arith)
 
 demand-2-200 : Demand2 200 0 → ⊥
-demand-2-200 p = omega (arith, accepted-counts {t = 200} {s = 0} _ _ of-next (p .next-form (top 200 0) (top-schedule 200 0 (omega arith))) .0)
+demand-2-200 p = omega (
+  arith,
+  accepted-counts {t = 200} {s = 0} _ _ of-next (p .next-form (top 200 0) (top-schedule 200 0 (omega arith))) .0,
+)
 
 demand-3-all-3 : Demand3All 3 2
 demand-3-all-3 = demands .third-all 3 2 (omega arith, omega arith)
 
 demand-3-all-200 : Demand3All 200 0 → ⊥
-demand-3-all-200 p = omega (arith, accepted-counts {t = 200} {s = 0} _ _ (of-run {k = 0}) (p .run-given (top 200 0) 0 (top-schedule 200 0 (omega arith)) (omega arith)) .0)
+demand-3-all-200 p = omega (
+  arith,
+  accepted-counts {t = 200} {s = 0} _ _ (of-run {k = 0})
+      (p .run-given (top 200 0) 0 (top-schedule 200 0 (omega arith)) (omega arith)) .0,
+)
 
 -- the round is met by (3,2); (1,1) has one form, whose step changes nothing
 demand-3-3 : Demand3 3 2
@@ -167,4 +214,6 @@ demand-3-3 = demands .third 3 2 (omega arith, omega arith) (omega arith) (omega 
 
 demand-3-1 : Demand3 1 1 → ⊥
 unfolding every firstFrom ones zeros isSchedule shift found has01 movesNext next changed
-demand-3-1 p = ⊎-elim (λ two. omega (arith, two)) (λ four. omega (arith, four)) (p .step-changes (top 1 1) (top-schedule 1 1 (omega arith)))
+demand-3-1 p =
+    ⊎-elim (λ two. omega (arith, two)) (λ four. omega (arith, four))
+    (p .step-changes (top 1 1) (top-schedule 1 1 (omega arith)))

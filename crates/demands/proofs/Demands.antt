@@ -43,7 +43,14 @@ use Rattle.demands.proofs.Answered.{call-answered}
 use Rattle.demands.proofs.Handed.{says}
 
 demand-1 : Demand1
-demand-1 = record { by-number = refused-number; refused = call-refused; unchanged = call-unchanged; silent = call-silent; answered = call-answered; one-answer = call-one }
+demand-1 = record {
+  by-number = refused-number;
+  refused = call-refused;
+  unchanged = call-unchanged;
+  silent = call-silent;
+  answered = call-answered;
+  one-answer = call-one;
+}
 
 -- what an accepted call answers, and what it leaves
 accepts : (v : Verdict) → v ≡ Verdict.Accepted → (n : ℕ) → Answer.Value n ≡ answer v n
@@ -57,10 +64,12 @@ single e = ap (λ (l : List (List ℕ)). getD l 0 []) e
 
 module _ (t s : ℕ) (a : Allowed t s) where
   -- what an accepted number says
-  numbered : (b : List ℕ) (n : ℕ) → Gives (number t s b) Verdict.Accepted (n ∷ []) (b ∷ []) → Schedule t s b × (n ≡ numberOf t s b)
+  numbered : (b : List ℕ) (n : ℕ) → Gives (number t s b) Verdict.Accepted (n ∷ []) (b ∷ [])
+      → Schedule t s b × (n ≡ numberOf t s b)
   numbered b n g =
       let e = taken (checked t s b) (numberOf t s b) (g .0 .0) in
-      let said : n ∷ [] ≡ numberOf t s b ∷ [] = g .0 .1 ∙ ap (λ (v : Verdict). value (answer v (numberOf t s b)) ∷ []) e in
+      let said : n ∷ [] ≡ numberOf t s b ∷ [] =
+      g .0 .1 ∙ ap (λ (v : Verdict). value (answer v (numberOf t s b)) ∷ []) e in
       (accepted-schedule t s b e .1, ap (λ (l : List ℕ). getD l 0 0) said)
 
   -- a run that was taken is not too long
@@ -74,28 +83,45 @@ module _ (t s : ℕ) (a : Allowed t s) where
       record {
         next-form = λ b p. let e = schedule-accepted t s b a p in (says _ _ (accepts _ e _), leaves _ e _ b);
         number-given = λ b p. (numberOf t s b, (says _ _ (accepts _ (schedule-accepted t s b a p) _), refl));
-        number-fewest = λ b n g. let said = numbered b n g in subst (Fewest t s b) (sym (said .1)) (number-fewest (said .0));
-        form-given = λ n out h long. (formOf t s n, form-schedule (a .1) n, ((sym (form-accepted t s a n out h long), refl), leaves _ (form-accepted t s a n out h long) _ out));
-        form-number = λ n out b g. (says _ _ (sym (ap (numberAnswer t s) (single (g .1)) ∙ asked-numbered t s n out (sym (g .0 .0)))), refl);
+        number-fewest = λ b n g.
+            let said = numbered b n g in
+            subst (Fewest t s b) (sym (said .1)) (number-fewest (said .0));
+        form-given = λ n out h long. (
+          formOf t s n,
+          form-schedule (a .1) n,
+          ((sym (form-accepted t s a n out h long), refl), leaves _ (form-accepted t s a n out h long) _ out),
+        );
+        form-number = λ n out b g.
+            (says _ _ (sym (ap (numberAnswer t s) (single (g .1)) ∙ asked-numbered t s n out (sym (g .0 .0)))), refl);
         number-form = asks;
         walking-asking = walks;
       }
     where
-      asks : (n : ℕ) (out b : List ℕ) → Gives (number t s b) Verdict.Accepted (n ∷ []) (b ∷ []) → length out ≡ t + s → Gives (form t s n out) Verdict.Accepted [] (b ∷ [])
+      asks : (n : ℕ) (out b : List ℕ) → Gives (number t s b) Verdict.Accepted (n ∷ []) (b ∷ []) → length out ≡ t + s
+          → Gives (form t s n out) Verdict.Accepted [] (b ∷ [])
       asks n out b g long =
           let said = numbered b n g in
           let below : n < N t s = omega (arith, said .1, number-below (said .0)) in
-          let answered = sym (accepts (checked t s b) (schedule-accepted t s b a (said .0)) (numberOf t s b)) ∙ ap Answer.Value (sym (said .1)) in
-          ((sym (form-accepted t s a n out below long), refl), ap (λ (l : List ℕ). l ∷ []) (sym (numbered-asked t s b n answered out long)))
+          let answered =
+          sym (accepts (checked t s b) (schedule-accepted t s b a (said .0)) (numberOf t s b))
+          ∙ ap Answer.Value (sym (said .1)) in (
+            (sym (form-accepted t s a n out below long), refl),
+            ap (λ (l : List ℕ). l ∷ []) (sym (numbered-asked t s b n answered out long)),
+          )
 
-      walks : (n k : ℕ) (out a' b m : List ℕ) → Gives (form t s n out) Verdict.Accepted [] (a' ∷ []) → Gives (run t s a' k) Verdict.Accepted m (b ∷ [])
+      walks : (n k : ℕ) (out a' b m : List ℕ) → Gives (form t s n out) Verdict.Accepted [] (a' ∷ [])
+          → Gives (run t s a' k) Verdict.Accepted m (b ∷ [])
           → Gives (form t s ((n + k) % N t s) out) Verdict.Accepted [] (b ∷ [])
       walks n k out a' b m g h =
           let long = form-allowed t s n out (sym (g .0 .0)) .1 in
           let short = run-short a' k (taken (judge (runRows t s a' k)) (worked k a') (h .0 .0)) in
           let walked : b ≡ formLeft t s ((n + k) % N t s) out =
-          single (h .1) ∙ ap (λ (c : List ℕ). runLeft t s c k) (single (g .1)) ∙ walked-asked t s n k out (sym (g .0 .0)) short in
-          ((sym (form-accepted t s a ((n + k) % N t s) out (mod-lt (n + k) (N-pos t s (a .1))) long), refl), ap (λ (l : List ℕ). l ∷ []) walked)
+          single (h .1)
+          ∙ ap (λ (c : List ℕ). runLeft t s c k) (single (g .1))
+          ∙ walked-asked t s n k out (sym (g .0 .0)) short in (
+            (sym (form-accepted t s a ((n + k) % N t s) out (mod-lt (n + k) (N-pos t s (a .1))) long), refl),
+            ap (λ (l : List ℕ). l ∷ []) walked,
+          )
 
   demand-3 : 2 ≤ t → 1 ≤ s → Demand3 t s
   demand-3 two one =
@@ -112,8 +138,15 @@ module _ (t s : ℕ) (a : Allowed t s) where
         how-many = λ l p. lists-N t s l p;
         counted = (says _ _ (accepts _ (allowed-counts t s a) _), refl);
         all-listed = let l = N-schedules t s in (l .0, l .1);
-        run-given = λ b k p h. let e = run-taken t s b k (schedule-accepted t s b a p) h in (says _ _ (accepts _ e _), leaves _ e _ b);
+        run-given = λ b k p h.
+            let e = run-taken t s b k (schedule-accepted t s b a p) h in
+            (says _ _ (accepts _ e _), leaves _ e _ b);
       }
 
 pub demands : Demands
-demands = record { first = demand-1; second = demand-2; third = λ t s a two one. demand-3 t s a two one; third-all = demand-3-all }
+demands = record {
+  first = demand-1;
+  second = demand-2;
+  third = λ t s a two one. demand-3 t s a two one;
+  third-all = demand-3-all;
+}

@@ -18,7 +18,8 @@ All (e ∷ l) = Holds e × All l
 
 member : (l : List Example) → All l → (e : Example) → List·Memᴰ e l → Holds e
 member [] h e m = absurd (List·Memᴰ·not-nil m)
-member (first ∷ l) h e m = ⊎-elim (λ same. subst Holds (sym same) (h .0)) (λ later. member l (h .1) e later) (List·Memᴰ·cases-cons m)
+member (first ∷ l) h e m =
+    ⊎-elim (λ same. subst Holds (sym same) (h .0)) (λ later. member l (h .1) e later) (List·Memᴰ·cases-cons m)
 
 infixr 5 _and_
 _and_ : {A B : Type 0} → A → B → A × B
@@ -29,7 +30,8 @@ tree-111001001100 = node (node (node leaf leaf) (node leaf leaf)) (node (node le
 
 -- one line for each example, in the order of the list
 computed : All examples
-unfolding tree-111001001100 size word root lefts rights parents N every firstFrom ones zeros isSchedule shift found has01 movesNext next steps changed worked
+unfolding tree-111001001100 size word root lefts rights parents N every firstFrom ones zeros isSchedule shift found
+    has01 movesNext next steps changed worked
 computed =
     (refl and refl and refl and refl and refl and refl and tt) and
     (refl and refl and refl and refl and refl and tt) and

@@ -17,7 +17,9 @@ pub says : (a b : Answer) → a ≡ b → Says b (verdict a) (value a ∷ [])
 says a b e = (ap verdict e, ap (λ (x : Answer). value x ∷ []) e)
 
 pub tells : (a b : Reading) → a ≡ b
-    → (said.verdict a ≡ said.verdict b) × (said.t a ∷ said.s a ∷ said.number a ∷ said.consumed a ∷ [] ≡ said.t b ∷ said.s b ∷ said.number b ∷ said.consumed b ∷ [])
+    → (said.verdict a ≡ said.verdict b)
+    × (said.t a ∷ said.s a ∷ said.number a ∷ said.consumed a ∷ []
+    ≡ said.t b ∷ said.s b ∷ said.number b ∷ said.consumed b ∷ [])
 tells a b e = (ap said.verdict e, ap (λ (x : Reading). said.t x ∷ said.s x ∷ said.number x ∷ said.consumed x ∷ []) e)
 
 pub alone : (x y : List ℕ) → x ≡ y → _≡_ {A = List (List ℕ)} (x ∷ []) (y ∷ [])

@@ -140,7 +140,8 @@ module _ (why : Refusal) (m : List ℕ) (x : List (List ℕ)) where
   unfolding N valueOf
   read-refusing g = never (g .0 .0)
 
-  pub read-beaten-refusing : Gives (read (5 ∷ 0 ∷ 2 ∷ 0 ∷ 3 ∷ 2 ∷ 168 ∷ []) (room mostBeats)) (Verdict.Refused why) m x → ⊥
+  pub read-beaten-refusing : Gives (read (5 ∷ 0 ∷ 2 ∷ 0 ∷ 3 ∷ 2 ∷ 168 ∷ []) (room mostBeats)) (Verdict.Refused why) m x
+      → ⊥
   unfolding firstFrom ones zeros valueOf tabulate
   read-beaten-refusing g = never (g .0 .0)
 

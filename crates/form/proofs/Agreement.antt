@@ -2,7 +2,8 @@
 -- No t, s or number is left out; `numbered-asked` asks for t+s lent bytes, `walked-asked` for an allowed run.
 --     form-accepted       a form is written for every number that there is, into as many bytes as it has beats
 --     asked-numbered      the number of what `form` writes for n is n [D2e]
---     numbered-asked      what `form` writes for the number that `number` answers is the schedule that was asked about [D2f]
+--     numbered-asked      what `form` writes for the number that `number` answers is the schedule
+--                         that was asked about [D2f]
 --     walked-asked        walking k steps from form number m leaves what `form` writes for (m + k) mod N(t, s) [D2g]
 -- Assumes nothing.
 use mathlib.Core.List.{List}
@@ -45,7 +46,8 @@ module _ (t s : ℕ) where
       ∙ ap (λ (v : Verdict). answer v (numberOf t s (formOf t s n))) accepted
       ∙ ap Answer.Value (form-number (within .1) n (within .2))
 
-  pub form-accepted : Allowed t s → (n : ℕ) (out : List ℕ) → n < N t s → length out ≡ t + s → formVerdict t s n out ≡ Verdict.Accepted
+  pub form-accepted : Allowed t s → (n : ℕ) (out : List ℕ) → n < N t s → length out ≡ t + s
+      → formVerdict t s n out ≡ Verdict.Accepted
   form-accepted a n out below long = form-taken t s n out (number-taken t s n (allowed-counts t s a) below) long
 
   pub numbered-asked : (b : List ℕ) (n : ℕ) → numberAnswer t s b ≡ Answer.Value n

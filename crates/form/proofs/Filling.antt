@@ -43,14 +43,21 @@ shape-at : (p q i : ℕ) (c : List ℕ) → i < p + q → getD (ups p (downs q c
 shape-at p q i c h =
     elim (decLt i p) [
       | yes k ↦ rw (lt-ltb i p k) (get-up p i (downs q c) k)
-      | no k ↦ rw (le-ltb i p (omega arith)) (get-ups p (i - p) i (downs q c) (omega arith) ∙ get-down q (i - p) c (omega arith))
+      | no k ↦
+          rw (le-ltb i p (omega arith))
+          (get-ups p (i - p) i (downs q c) (omega arith) ∙ get-down q (i - p) c (omega arith))
     ]
 
 module _ {b₀ : List ℕ} {p n : ℕ} (few : p ≤ n) (fits : n ≤ length b₀) where
   pub front-none : Fronted b₀ p n b₀ n
-  front-none = record { same = refl; inside = omega arith; rest = sym (shape-past p (n - p) n (drop n b₀) (omega arith)) }
+  front-none = record {
+    same = refl;
+    inside = omega arith;
+    rest = sym (shape-past p (n - p) n (drop n b₀) (omega arith));
+  }
 
-  pub front-turn : {b : List ℕ} {i : ℕ} → Fronted b₀ p n b i → 0 < i → Fronted b₀ p n (set b (i - 1) (boolByte (ltb (i - 1) p))) (i - 1)
+  pub front-turn : {b : List ℕ} {i : ℕ} → Fronted b₀ p n b i → 0 < i
+      → Fronted b₀ p n (set b (i - 1) (boolByte (ltb (i - 1) p))) (i - 1)
   front-turn {b} {i} f h =
       let x = boolByte (ltb (i - 1) p) in
       let next : suc (i - 1) ≡ i = omega arith in

@@ -49,7 +49,9 @@ module _ (t s n : ℕ) where
       (a .0, a .1, elim (decLt n (N t s)) [ yes h ↦ h | no h ↦ absurd (beyond (omega arith)) ])
     where
       none : not (ltb n (N t s)) ≡ false
-      none = accepted-none seven (judge-back (countRows t s) seven e) (not (ltb n (N t s)) ⇒ NoSuchNumber) (List·Memᴰ·head refl)
+      none =
+          accepted-none seven (judge-back (countRows t s) seven e) (not (ltb n (N t s)) ⇒ NoSuchNumber)
+          (List·Memᴰ·head refl)
 
       beyond : N t s ≤ n → ⊥
       beyond h = true≢false (sym (ap not (le-ltb n (N t s) h)) ∙ none)
@@ -72,7 +74,10 @@ module _ (t s n : ℕ) where
 
     pub form-allowed : judge (formRows t s n out) ≡ Verdict.Accepted
         → (judge (numberRows t s n) ≡ Verdict.Accepted) × (length out ≡ t + s)
-    form-allowed e = (judge-front (numberRows t s n) three e, elim (ℕ-discrete (length out) (t + s)) [ yes h ↦ h | no h ↦ absurd (other h) ])
+    form-allowed e = (
+      judge-front (numberRows t s n) three e,
+      elim (ℕ-discrete (length out) (t + s)) [ yes h ↦ h | no h ↦ absurd (other h) ],
+    )
       where
         none : not (eqb (length out) (t + s)) ≡ false
         none =
@@ -102,5 +107,6 @@ pub on-part : (column end : ℕ) (form sheet : List ℕ) → end ≡ column + le
     → take column sheet ++ (form ++ drop (end - column) (drop column sheet)) ≡ onSheet column form sheet
 on-part column end form sheet e =
     let q : column + (end - column) ≡ column + length form = omega arith in
-    rw (drop-drop (end - column) column sheet) (sym (append-assoc (take column sheet) form (drop (column + (end - column)) sheet)))
+    rw (drop-drop (end - column) column sheet)
+    (sym (append-assoc (take column sheet) form (drop (column + (end - column)) sheet)))
     ∙ ap (λ (j : ℕ). take column sheet ++ form ++ drop j sheet) q

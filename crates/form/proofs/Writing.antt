@@ -1,4 +1,5 @@
--- From a number to its form, last beat first: one turn of the writing loop, on plain values. A place is one in list S, from 1 on.
+-- From a number to its form, last beat first: one turn of the writing loop, on plain values. A place is
+-- one in list S, from 1 on.
 --     place-zero, place-more     how the place of a number is found
 --     floor-zero, floor-more     how the floor is looked up
 --     AtPlace                    a list written last beat first is a schedule of p, q, and stands at place k
@@ -105,7 +106,8 @@ pub record AtPlace (p q k : ℕ) (r : List ℕ) : Type 0 where
   pub downs : zeros r ≡ q
   pub place : placeOf (N p q) (rank r) ≡ k
 
--- whatever list of p ones and as many zeros as there is room for, at place k of all, comes before what is written makes the whole
+-- whatever list of p ones and as many zeros as there is room for, at place k of all, comes before what
+-- is written makes the whole
 pub record Behind (t s n : ℕ) (b : List ℕ) (i p k all low : ℕ) : Type 0 where
   pub down : ℕ
   pub left : i ≡ p + down
@@ -197,7 +199,9 @@ module _ {t s n : ℕ} {b : List ℕ} {i p k all low : ℕ} (u : Behind t s n b 
               turned = down (omega (arith, u .level, behind-some, g .ups, g .downs)) (g .turned);
               ups = g .ups;
               downs = omega (arith, behind-some, g .downs);
-              place = rw (place-back (N p (u .down - 1)) (rank r) k (omega (arith, floor-count)) (g .place)) (sym own-place);
+              place =
+                  rw (place-back (N p (u .down - 1)) (rank r) k (omega (arith, floor-count)) (g .place))
+                  (sym own-place);
             })));
       }
 
@@ -228,7 +232,14 @@ module _ {t s n : ℕ} {b : List ℕ} {i p k all low : ℕ} (u : Behind t s n b 
               downs = g .downs;
               place =
                   let value : raise (suc (p - 1)) (u .down) (rank r) ≡ k =
-                  omega (arith, raise-place (p - 1) (u .down) (rank r) behind-some few, floor, u .floored, g .place, floor-some) in
+                  omega (
+                    arith,
+                    raise-place (p - 1) (u .down) (rank r) behind-some few,
+                    floor,
+                    u .floored,
+                    g .place,
+                    floor-some,
+                  ) in
                   rw (g .ups, g .downs, value) (sym own-place);
             })));
       }
@@ -258,12 +269,19 @@ module _ {t s n : ℕ} {b : List ℕ} {i p k all low : ℕ} (u : Behind t s n b 
       let q = u .down in
       let room : i - p ≡ q = omega (arith, u .left) in
       let shape : c ≡ ups p (downs q (drop i b)) =
-      e ∙ ap (λ (m : ℕ). top p m ++ drop i b) room ∙ ap (λ (l : List ℕ). l ++ drop i b) (top-shape p q) ∙ shape-join p q (drop i b) in
+      e
+      ∙ ap (λ (m : ℕ). top p m ++ drop i b) room
+      ∙ ap (λ (l : List ℕ). l ++ drop i b) (top-shape p q)
+      ∙ shape-join p q (drop i b) in
       let turn : reverseAux c [] ≡ reverseAux (drop i b) (flat p q) =
-      ap (λ (l : List ℕ). reverseAux l []) shape ∙ turn-ups p (downs q (drop i b)) [] ∙ turn-downs q (drop i b) (ups p []) in
+      ap (λ (l : List ℕ). reverseAux l []) shape
+      ∙ turn-ups p (downs q (drop i b)) []
+      ∙ turn-downs q (drop i b) (ups p []) in
       let w = rw (← turn) at (u .whole (flat p q) front) in
       let plays = unturned 0 c [] (omega arith) (w .turned) in
-      let form = plays-schedule {t = t} {s = s} plays (omega (arith, ones-turn c [], w .ups)) (omega (arith, zeros-turn c [], w .downs)) in
+      let form =
+      plays-schedule {t = t} {s = s} plays (omega (arith, ones-turn c [], w .ups))
+      (omega (arith, zeros-turn c [], w .downs)) in
       let below : rank (reverseAux c []) < N t s = rw (← w .ups, ← w .downs) (rank-below (w .turned)) in
       let value = place-same (N t s) (rank (reverseAux c [])) n below o (w .place) in
       same-rank form (form-schedule l n) (value ∙ sym (form-rank l n o))

@@ -1,4 +1,5 @@
--- The one number that a C function answers, from the verdict or the answer that it was given: rules that `search` chains.
+-- The one number that a C function answers, from the verdict or the answer that it was given:
+-- rules that `search` chains.
 --     refusal-of, place-of, value-of, verdict-of     a part of what was given is that part of what it equals
 --     refusal-before, place-before                   the refusal and the place are known before there is a value
 -- Assumes nothing.

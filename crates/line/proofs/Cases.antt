@@ -1,5 +1,5 @@
--- The definitions of specs/ on small inputs, by computing them: lines of the manual, "The packing list", and that of the empty schedule.
--- Assumes nothing.
+-- The definitions of specs/ on small inputs, by computing them: lines of the manual, "The packing list", and that of
+-- the empty schedule. Assumes nothing.
 use mathlib.Core.List.{[], _∷_}
 use mathlib.Core.Path.{_≡_, refl}
 use Prim.Native.Nat.{zero, suc}

@@ -49,7 +49,8 @@ written-beats b xs ys at i h l m e =
     (record {
       text =
           e
-          ∙ ap₂ (λ (g : List ℕ) (k : ℕ). take at xs ++ g ++ drop (at + k) xs) (take-all i (glyphs b) (omega (arith, long)))
+          ∙ ap₂ (λ (g : List ℕ) (k : ℕ). take at xs ++ g ++ drop (at + k) xs)
+          (take-all i (glyphs b) (omega (arith, long)))
           (sym long);
       end = ap (λ (k : ℕ). at + k) (sym long);
     })
@@ -71,9 +72,11 @@ written-accepted t s n b {r = r} {v = v} {out = out} first second third fourth f
 abbrev pub word : List ℕ
 word = 114 ∷ 101 ∷ 102 ∷ 117 ∷ 115 ∷ 101 ∷ 100 ∷ 32 ∷ []
 
-pub written-refused : (why : Refusal) {number place : ℕ} → number ≡ refusalNumber why → place ≡ refusalPlace why → {h i j r : ℕ} {v w x y out : List ℕ}
+pub written-refused : (why : Refusal) {number place : ℕ} → number ≡ refusalNumber why → place ≡ refusalPlace why
+    → {h i j r : ℕ} {v w x y out : List ℕ}
     → Written 0 word v w h → Written h (decimal number ++ 32 ∷ []) w x i → Written i (decimal place) x y j
     → Written j (10 ∷ []) y out r → Written 0 (refusedLine why) v out r
 written-refused why {number} {place} en ep {r = r} {v = v} {out = out} first second third fourth =
     let three = written-then (omega arith) (written-then (omega arith) first second) third in
-    subst (λ (p : List ℕ). Written 0 p v out r) (simp append-assoc (rw (en, ep))) (written-then (omega arith) three fourth)
+    subst (λ (p : List ℕ). Written 0 p v out r) (simp append-assoc (rw (en, ep)))
+    (written-then (omega arith) three fourth)

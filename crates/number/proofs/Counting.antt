@@ -1,12 +1,13 @@
--- The number of a form from its beats: one turn of the loop after the leftmost 0 followed by 1, on plain values. The beats need not be
--- a schedule: each is tested before it is counted.
+-- The number of a form from its beats: one turn of the loop after the leftmost 0 followed by 1, on plain values. The
+-- beats need not be a schedule: each is tested before it is counted.
 --     sized-parts, parts-sized     what the test of the sizes says
 --     no-rank            what is said of beats that are no schedule
 --     ranked             what the last test of the ones says of the whole
 --     front i b          the beats before i, last first
 --     goes-parts         what the test of a beat says
 --     goes-on            every beat of a schedule passes it
---     Counted            ups, downs and number are the counts and the rank of the beats before i, which play, and the rank is not 0
+--     Counted            ups, downs and number are the counts and the rank of the beats before i, which
+--                        play, and the rank is not 0
 --     rise-goes          a schedule's first beat after its first zeros passes the test
 --     counted-rise       after the found 1
 --     counted-turn       one beat more
@@ -28,10 +29,32 @@ use Rattle.triangle.specs.Count.{N, largest}
 use Rattle.triangle.proofs.Count.{N-pos}
 use Rattle.counts.specs.Counts.{Allowed}
 use Rattle.schedule.specs.Schedule.{ones, zeros, Schedule}
-use Rattle.schedule.proofs.Hand.{plays, Turned, down, up, level, turned, unturned, start, plays-schedule, ones-turn, zeros-turn}
+use Rattle.schedule.proofs.Hand.{
+  plays,
+  Turned,
+  down,
+  up,
+  level,
+  turned,
+  unturned,
+  start,
+  plays-schedule,
+  ones-turn,
+  zeros-turn,
+}
 use Rattle.schedule.proofs.Tally.{prefix-up, prefix-down}
 use Rattle.schedule.proofs.Skipping.{Skips}
-use Rattle.circle.proofs.Shape.{ups, downs, shape-plays, shape-length, shape-ones, shape-zeros, shape-join, turn-ups, turn-downs}
+use Rattle.circle.proofs.Shape.{
+  ups,
+  downs,
+  shape-plays,
+  shape-length,
+  shape-ones,
+  shape-zeros,
+  shape-join,
+  turn-ups,
+  turn-downs,
+}
 use Rattle.circle.proofs.Rank.{rank, rankOf, rank-below}
 use Rattle.circle.proofs.Stores.{Found, rising}
 use Rattle.circle.proofs.Stores.{flat as Found·flat}
@@ -52,12 +75,14 @@ module _ (t s : ℕ) (b : List ℕ) where
   pub parts-sized : Allowed t s → length b ≡ t + s → isSized t s b ≡ true
   parts-sized a e = simp (le-leb t largest (a .0), le-leb s t (a .1), eq-eqb (length b) (t + s) e)
 
-pub no-rank : {t s : ℕ} {b : List ℕ} {whole : Bool} (n : ℕ) → whole ≡ false → (Allowed t s → Schedule t s b → ⊥) → Ranks t s b whole n
+pub no-rank : {t s : ℕ} {b : List ℕ} {whole : Bool} (n : ℕ) → whole ≡ false → (Allowed t s → Schedule t s b → ⊥)
+    → Ranks t s b whole n
 no-rank {t} {s} {b} {whole} n e wrong = subst (λ (q : Bool). Ranks t s b q n) (sym e) wrong
 
 -- the last test: whether the ones are as many as named
 pub ranked : {t s : ℕ} {b : List ℕ} {n : ℕ} (u v : ℕ)
-    → (u ≡ v → Allowed t s × Schedule t s b × (n ≡ numberOf t s b)) → (u ≢ v → Schedule t s b → ⊥) → Ranks t s b (eqb u v) n
+    → (u ≡ v → Allowed t s × Schedule t s b × (n ≡ numberOf t s b)) → (u ≢ v → Schedule t s b → ⊥)
+    → Ranks t s b (eqb u v) n
 ranked {t} {s} {b} {n} u v right wrong = by (eqb u v) refl
   where
     by : (q : Bool) → eqb u v ≡ q → Ranks t s b q n
@@ -83,16 +108,19 @@ ones-take (zero ∷ b) (suc i) = ones-take b i
 ones-take (suc zero ∷ b) (suc i) = omega (arith, ones-take b i)
 ones-take (suc (suc x) ∷ b) (suc i) = ones-take b i
 
-pub goes-on : {t s : ℕ} {b : List ℕ} → Schedule t s b → (i : ℕ) → i < length b → goesOn t (ones (take i b)) (zeros (take i b)) (getD b i 0) ≡ true
+pub goes-on : {t s : ℕ} {b : List ℕ} → Schedule t s b → (i : ℕ) → i < length b
+    → goesOn t (ones (take i b)) (zeros (take i b)) (getD b i 0) ≡ true
 goes-on {t} {s} {b} p i h = by (getD b i 0) refl
   where
     by : (beat : ℕ) → getD b i 0 ≡ beat → goesOn t (ones (take i b)) (zeros (take i b)) beat ≡ true
     by zero e =
         let more = prefix-down b i h e in
-        goes t (ones (take i b)) (zeros (take i b)) 0 (omega arith) (omega (arith, ones-take b i, p .taken)) (omega (arith, more .0, more .1, p .ahead (suc i) (omega arith)))
+        goes t (ones (take i b)) (zeros (take i b)) 0 (omega arith) (omega (arith, ones-take b i, p .taken))
+        (omega (arith, more .0, more .1, p .ahead (suc i) (omega arith)))
     by (suc zero) e =
         let more = prefix-up b i h e in
-        goes t (ones (take i b)) (zeros (take i b)) 1 (omega arith) (omega (arith, more .0, ones-take b (suc i), p .taken)) (omega (arith, p .ahead i (omega arith)))
+        goes t (ones (take i b)) (zeros (take i b)) 1 (omega arith)
+        (omega (arith, more .0, ones-take b (suc i), p .taken)) (omega (arith, p .ahead i (omega arith)))
     by (suc (suc x)) e = absurd (omega (arith, p .beats i h))
 
 abbrev front : ℕ → List ℕ → List ℕ
@@ -139,14 +167,16 @@ module _ {t : ℕ} {b : List ℕ} {i p q number : ℕ} (c : Counted t b i p q nu
   pub counted-goes : {s : ℕ} → Schedule t s b → i < length b → goesOn t p q (getD b i 0) ≡ true
   counted-goes r h = rw (c .ups, c .downs, front-ones b i, front-zeros b i) (goes-on r i h)
 
-  pub counted-turn : i < length b → (beat grown : ℕ) → beat ≡ getD b i 0 → goesOn t p q beat ≡ true → grown ≡ beat * (N (p + beat) (q - 1) - 1)
+  pub counted-turn : i < length b → (beat grown : ℕ) → beat ≡ getD b i 0 → goesOn t p q beat ≡ true
+      → grown ≡ beat * (N (p + beat) (q - 1) - 1)
       → Counted t b (i + 1) (p + beat) (q + (1 - beat)) (number + grown)
   unfolding ones zeros rank
   counted-turn h zero grown e fits g =
       let may = goes-parts t p q 0 fits in
       record {
         inside = omega arith;
-        played = rw (front-more b i h, ← e) (down {r = front i b} (omega (arith, may .2, c .ups, c .downs)) (c .played));
+        played =
+            rw (front-more b i h, ← e) (down {r = front i b} (omega (arith, may .2, c .ups, c .downs)) (c .played));
         few = may .1;
         ups = rw (front-more b i h, ← e) (omega (arith, c .ups));
         downs = rw (front-more b i h, ← e) (omega (arith, c .downs));
@@ -159,8 +189,10 @@ module _ {t : ℕ} {b : List ℕ} {i p q number : ℕ} (c : Counted t b i p q nu
   counted-turn h (suc zero) grown e fits g =
       let may = goes-parts t p q 1 fits in
       let pos = N-pos (suc p) (q - 1) (omega (arith, counted-level)) in
-      let some = raise-some (suc (ones (front i b))) (zeros (front i b)) (rank (front i b)) (omega (arith, c .risen, c .value)) in
-      let here : N (p + 1) (q - 1) ≡ N (suc (ones (front i b))) (pred (zeros (front i b))) = ap₂ N (omega (arith, c .ups)) (omega (arith, c .downs)) in
+      let some =
+      raise-some (suc (ones (front i b))) (zeros (front i b)) (rank (front i b)) (omega (arith, c .risen, c .value)) in
+      let here : N (p + 1) (q - 1) ≡ N (suc (ones (front i b))) (pred (zeros (front i b))) =
+      ap₂ N (omega (arith, c .ups)) (omega (arith, c .downs)) in
       let same : N (suc p) (q - 1) ≡ N (p + 1) (q - 1) = ap (λ (u : ℕ). N u (q - 1)) (omega arith) in
       record {
         inside = omega arith;
@@ -178,7 +210,8 @@ module _ {t : ℕ} {b : List ℕ} {i p q number : ℕ} (c : Counted t b i p q nu
   unfolding ones zeros
   counted-all h all {s} long =
       let whole : take i b ≡ b = take-all i b h in
-      let played : plays 0 b ≡ true = unturned 0 b [] refl (subst (λ (l : List ℕ). Turned (reverse l)) whole (c .played)) in
+      let played : plays 0 b ≡ true =
+      unturned 0 b [] refl (subst (λ (l : List ℕ). Turned (reverse l)) whole (c .played)) in
       let ups : ones b ≡ t = omega (arith, c .ups, front-ones b i, ap ones whole) in
       let own = plays-schedule played refl refl in
       let fits : Schedule t s b = plays-schedule played ups (omega (arith, own .size)) in
@@ -209,7 +242,8 @@ flat-turned p q h =
     (turned 0 (ups p (downs q [])) [] (omega arith) start (flat-plays p q h))
 
 module _ {t : ℕ} {b : List ℕ} {y x : ℕ} where
-  pub rise-goes : Skips b 0 1 y → Skips b y 0 x → x < length b → {s : ℕ} → Schedule t s b → goesOn t y (x - y) (getD b x 0) ≡ true
+  pub rise-goes : Skips b 0 1 y → Skips b y 0 x → x < length b → {s : ℕ} → Schedule t s b
+      → goesOn t y (x - y) (getD b x 0) ≡ true
   unfolding ones zeros
   rise-goes sy sx h p =
       let before = split-take sy sx in
@@ -217,10 +251,12 @@ module _ {t : ℕ} {b : List ℕ} {y x : ℕ} where
       let q' : x - y ≡ zeros (take x b) = omega (arith, ap zeros before, shape-zeros y (x - y) []) in
       ap₂ (λ (u d : ℕ). goesOn t u d (getD b x 0)) p' q' ∙ goes-on p x h
 
-  pub counted-rise : Found b y x → x < length b → x - y ≤ y → y + 1 ≤ t → (n : ℕ) → n ≡ N (y + 1) (x - y) - 1 → Counted t b (x + 1) (y + 1) (x - y) n
+  pub counted-rise : Found b y x → x < length b → x - y ≤ y → y + 1 ≤ t → (n : ℕ) → n ≡ N (y + 1) (x - y) - 1
+      → Counted t b (x + 1) (y + 1) (x - y) n
   counted-rise (Found·flat u d e ey ex) h l f n v = absurd (omega (arith, ap length e, shape-length u d []))
   counted-rise (rising u d z e ey ex) h l f n v =
-      let at : front (x + 1) b ≡ 1 ∷ flat (suc u) (suc d) = ap (front (x + 1)) e ∙ front-rise (suc u) (suc d) z (x + 1) (omega arith) in
+      let at : front (x + 1) b ≡ 1 ∷ flat (suc u) (suc d) =
+      ap (front (x + 1)) e ∙ front-rise (suc u) (suc d) z (x + 1) (omega arith) in
       let value : n ≡ N (suc (suc u)) (suc d) - 1 = v ∙ ap₂ (λ (a c : ℕ). N a c - 1) (omega arith) (omega arith) in
       record {
         inside = omega arith;
@@ -233,15 +269,18 @@ module _ {t : ℕ} {b : List ℕ} {y x : ℕ} where
       }
 
   -- where nothing stands after the zeros
-  pub flat-all : Found b y x → x ≡ length b → y ≡ t → {s : ℕ} → s ≤ t → length b ≡ t + s → Schedule t s b × (0 ≡ numberOf t s b)
+  pub flat-all : Found b y x → x ≡ length b → y ≡ t → {s : ℕ} → s ≤ t → length b ≡ t + s
+      → Schedule t s b × (0 ≡ numberOf t s b)
   unfolding ones zeros
   flat-all (Found·flat u d e ey ex) h all {s} few long =
       let size = shape-length u d [] in
       let plays' : plays 0 b ≡ true = ap (plays 0) e ∙ flat-plays u d (omega (arith, ap length e)) in
       let fits : Schedule t s b =
-      plays-schedule plays' (omega (arith, ap ones e, shape-ones u d [])) (omega (arith, ap length e, ap zeros e, shape-zeros u d [])) in
+      plays-schedule plays' (omega (arith, ap ones e, shape-ones u d []))
+      (omega (arith, ap length e, ap zeros e, shape-zeros u d [])) in
       (fits, sym (number-rank fits ∙ ap rankOf e ∙ rank-flat u d [] ∙ flat-rank u d))
-  flat-all (rising u d z e ey ex) h all few long = absurd (omega (arith, ap length e, shape-length (suc u) (suc d) (1 ∷ z)))
+  flat-all (rising u d z e ey ex) h all few long =
+      absurd (omega (arith, ap length e, shape-length (suc u) (suc d) (1 ∷ z)))
 
   pub flat-short : Found b y x → x ≡ length b → y ≢ t → {s : ℕ} → Schedule t s b → ⊥
   unfolding ones

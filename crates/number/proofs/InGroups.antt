@@ -24,7 +24,8 @@ use Rattle.circle.proofs.Rank.{raise, rank, rankOf}
 use Rattle.circle.proofs.Circle.{top-schedule, top-rank}
 use Rattle.number.specs.Groups.{upTo, lastGroup, ending, S}
 
-plays-append : (h : ℕ) (f c : List ℕ) (k : ℕ) → plays h f ≡ true → k + zeros f ≡ h + ones f → plays k c ≡ true → plays h (f ++ c) ≡ true
+plays-append : (h : ℕ) (f c : List ℕ) (k : ℕ) → plays h f ≡ true → k + zeros f ≡ h + ones f → plays k c ≡ true
+    → plays h (f ++ c) ≡ true
 unfolding plays ones zeros
 plays-append h [] c k o e p = let same : k ≡ h = omega arith in subst (λ (j : ℕ). plays j c ≡ true) same p
 plays-append zero (zero ∷ f) c k o e p = absurd (false≢true o)
@@ -59,7 +60,8 @@ module _ {t s i : ℕ} {f : List ℕ} (p : Schedule t i f) (h : i ≤ s) where
   unfolding plays ones zeros
   ending-schedule k l =
       plays-schedule
-      (plays-append 0 f (1 ∷ replicate (s - i) 0) (t - i) (schedule-plays p) (omega (arith, p .taken, schedule-zeros p)) (plays-zeros (s - i) (suc (t - i)) (omega arith)))
+      (plays-append 0 f (1 ∷ replicate (s - i) 0) (t - i) (schedule-plays p) (omega (arith, p .taken, schedule-zeros p))
+      (plays-zeros (s - i) (suc (t - i)) (omega arith)))
       (omega (arith, ones-append f (1 ∷ replicate (s - i) 0), ones-zeros (s - i), p .taken))
       (omega (arith, zeros-append f (1 ∷ replicate (s - i) 0), zeros-zeros (s - i), schedule-zeros p))
 
@@ -92,11 +94,16 @@ right-at l m j h =
 run-join : {t s from : ℕ} (l m : List (List ℕ)) → Run t s from l → Run t s (from + length l) m → Run t s from (l ++ m)
 run-join {t} {s} {from} l m p q = record { forms = λ j h. at j h .0; ranks = λ j h. at j h .1 }
   where
-    at : (j : ℕ) → j < length (l ++ m) → Schedule t s (getD (l ++ m) j []) × (rankOf (getD (l ++ m) j []) ≡ suc (from + j))
+    at : (j : ℕ) → j < length (l ++ m)
+        → Schedule t s (getD (l ++ m) j []) × (rankOf (getD (l ++ m) j []) ≡ suc (from + j))
     at j h =
         elim (decLt j (length l)) [
           | yes k ↦ rw (left-at l m j k) (p .forms j k, p .ranks j k)
-          | no k ↦ rw (right-at l m j (omega arith)) (q .forms (j - length l) (omega (arith, length-append l m)), omega (arith, q .ranks (j - length l) (omega (arith, length-append l m))))
+          | no k ↦
+              rw (right-at l m j (omega arith)) (
+                q .forms (j - length l) (omega (arith, length-append l m)),
+                omega (arith, q .ranks (j - length l) (omega (arith, length-append l m))),
+              )
         ]
 
 -- all forms of t, s: the ranks 1, 2, .., N − 1 and, at the end, 0
@@ -116,11 +123,15 @@ unfolding raise
 raise-last t i j h e = omega (arith, N-add t i h, N-pos (suc t) i (omega arith))
 
 -- the group of i + 1
-group-run : (t s i : ℕ) (l : List (List ℕ)) → suc i ≤ t → suc i ≤ s → s ≤ suc t → Placed t (suc i) l → Run (suc t) s (N (suc t) i - 1) (map (ending s (suc i)) l)
+group-run : (t s i : ℕ) (l : List (List ℕ)) → suc i ≤ t → suc i ≤ s → s ≤ suc t → Placed t (suc i) l
+    → Run (suc t) s (N (suc t) i - 1) (map (ending s (suc i)) l)
 group-run t s i l h k m p =
     record {
       forms = λ j b. rw (map-at (ending s (suc i)) l j (inside j b)) (ending-schedule (p .forms j (inside j b)) k m h);
-      ranks = λ j b. ap rankOf (map-at (ending s (suc i)) l j (inside j b)) ∙ ending-rank (p .forms j (inside j b)) k ∙ by j (inside j b);
+      ranks = λ j b.
+          ap rankOf (map-at (ending s (suc i)) l j (inside j b))
+          ∙ ending-rank (p .forms j (inside j b)) k
+          ∙ by j (inside j b);
     }
   where
     inside : (j : ℕ) → j < length (map (ending s (suc i)) l) → j < length l
@@ -130,7 +141,9 @@ group-run t s i l h k m p =
     by j b =
         elim (decLt (suc j) (length l)) [
           | yes more ↦ ap (raise (suc t) (suc i)) (p .inner j more) ∙ raise-inner t i j (omega arith)
-          | no more ↦ ap (raise (suc t) (suc i)) (p .last j (omega arith)) ∙ raise-last t i j (omega arith) (omega (arith, p .long))
+          | no more ↦
+              ap (raise (suc t) (suc i)) (p .last j (omega arith))
+              ∙ raise-last t i j (omega arith) (omega (arith, p .long))
         ]
 
 module _ (t s : ℕ) (m : s ≤ suc t) (all : (i : ℕ) → i ≤ t → Placed t i (S t i)) where
@@ -156,23 +169,29 @@ module _ (t s : ℕ) (m : s ≤ suc t) (all : (i : ℕ) → i ≤ t → Placed t
   groups-run (suc n) h k =
       let from : N (suc t) n - 1 ≡ 0 + length (groups n) = omega (arith, groups-long n (omega arith)) in
       run-join (groups n) (map (ending s (suc n)) (S t (suc n))) (groups-run n (omega arith) (omega arith))
-      (subst (λ (x : ℕ). Run (suc t) s x (map (ending s (suc n)) (S t (suc n)))) from (group-run t s n (S t (suc n)) h k m (all (suc n) h)))
+      (subst (λ (x : ℕ). Run (suc t) s x (map (ending s (suc n)) (S t (suc n)))) from
+      (group-run t s n (S t (suc n)) h k m (all (suc n) h)))
 
   -- a run from 0 with t ones then s zeros after it has all forms
   closed : (n : ℕ) → n ≤ t → n ≤ s → N (suc t) n ≡ N (suc t) s → Placed (suc t) s (groups n ++ top (suc t) s ∷ [])
   closed n h k e =
       let g = groups-run n h k in
-      let long : length (groups n ++ top (suc t) s ∷ []) ≡ suc (length (groups n)) = omega (arith, length-append (groups n) (top (suc t) s ∷ [])) in
+      let long : length (groups n ++ top (suc t) s ∷ []) ≡ suc (length (groups n)) =
+      omega (arith, length-append (groups n) (top (suc t) s ∷ [])) in
       record {
         long = omega (arith, long, groups-long n h, e);
         forms = λ j b. elim (decLt j (length (groups n))) [
           | yes l ↦ rw (left-at (groups n) (top (suc t) s ∷ []) j l) (g .forms j l)
-          | no l ↦ let here : j ≡ length (groups n) = omega (arith, long) in rw (here, getD-append-seam (groups n) (top (suc t) s) [] []) (top-schedule (suc t) s m)
+          | no l ↦
+              let here : j ≡ length (groups n) = omega (arith, long) in
+              rw (here, getD-append-seam (groups n) (top (suc t) s) [] []) (top-schedule (suc t) s m)
         ];
         inner = λ j b. let l : j < length (groups n) = omega (arith, long) in
             ap rankOf (left-at (groups n) (top (suc t) s ∷ []) j l) ∙ omega (arith, g .ranks j l);
         last = λ j b. let here : j ≡ length (groups n) = omega (arith, long) in
-            ap (λ (x : ℕ). rankOf (getD (groups n ++ top (suc t) s ∷ []) x [])) here ∙ ap rankOf (getD-append-seam (groups n) (top (suc t) s) [] []) ∙ top-rank (suc t) s;
+            ap (λ (x : ℕ). rankOf (getD (groups n ++ top (suc t) s ∷ []) x [])) here
+            ∙ ap rankOf (getD-append-seam (groups n) (top (suc t) s) [] [])
+            ∙ top-rank (suc t) s;
       }
 
   -- for t = s the group i = s has no fronts: t is the last group [E8]
@@ -181,7 +200,8 @@ module _ (t s : ℕ) (m : s ≤ suc t) (all : (i : ℕ) → i ≤ t → Placed t
 
   S-suc : Dec (suc t ≡ s) → Placed (suc t) s (groups (lastGroup (suc t) s) ++ top (suc t) s ∷ [])
   S-suc (yes e) =
-      let closes : N (suc t) (suc t) ≡ N (suc t) t = omega (arith, N-add t t (omega arith), N-over t (suc t) (omega arith)) in
+      let closes : N (suc t) (suc t) ≡ N (suc t) t =
+      omega (arith, N-add t t (omega arith), N-over t (suc t) (omega arith)) in
       rw (last-equal e) (closed t (omega arith) (omega arith) (sym closes ∙ ap (N (suc t)) e))
   S-suc (no e) = rw (ne-eqb (suc t) s e) (closed s (omega arith) (omega arith) refl)
 
@@ -192,7 +212,9 @@ S-placed zero zero h =
       long = sym (N-zero 0);
       forms = λ j b. let here : j ≡ 0 = omega arith in rw here (top-schedule 0 0 (omega arith));
       inner = λ j b. absurd (omega arith);
-      last = λ j b. let here : j ≡ 0 = omega arith in ap (λ (k : ℕ). rankOf (getD (top 0 0 ∷ []) k [])) here ∙ top-rank 0 0;
+      last = λ j b.
+          let here : j ≡ 0 = omega arith in
+          ap (λ (k : ℕ). rankOf (getD (top 0 0 ∷ []) k [])) here ∙ top-rank 0 0;
     }
 S-placed zero (suc s) h = absurd (omega arith)
 S-placed (suc t) s h = S-suc t s h (λ i k. S-placed t i k) (ℕ-discrete (suc t) s)

@@ -21,7 +21,17 @@ use Rattle.schedule.proofs.Hand.{schedule-le}
 use Rattle.circle.specs.Step.{top}
 use Rattle.circle.specs.Walk.{steps, changed}
 use Rattle.circle.proofs.Rank.{rankOf}
-use Rattle.circle.proofs.Circle.{At, before, past, walk-rank, rank-lt, same-rank, steps-schedule, top-schedule, top-rank}
+use Rattle.circle.proofs.Circle.{
+  At,
+  before,
+  past,
+  walk-rank,
+  rank-lt,
+  same-rank,
+  steps-schedule,
+  top-schedule,
+  top-rank,
+}
 use Rattle.circle.proofs.Work.{changed-self, changed-same}
 use Rattle.number.specs.Number.{Fewest, same, numberOf, formOf}
 
@@ -50,7 +60,10 @@ module _ {t s : ℕ} {b : List ℕ} (p : Schedule t s b) where
   fewest-rank n f =
       elim (decLt n (rankOf b)) [
         | yes h ↦ absurd (earlier n h (f .leads))
-        | no h ↦ elim (decLt (rankOf b) n) [ yes k ↦ absurd (f .none-before (rankOf b) k rank-leads) | no k ↦ omega arith ]
+        | no h ↦ elim (decLt (rankOf b) n) [
+          | yes k ↦ absurd (f .none-before (rankOf b) k rank-leads)
+          | no k ↦ omega arith
+        ]
       ]
 
   not-same : (k : ℕ) → k < rankOf b → same (steps k (top t s)) b ≡ false
@@ -59,13 +72,17 @@ module _ {t s : ℕ} {b : List ℕ} (p : Schedule t s b) where
       by : (q : Bool) → same (steps k (top t s)) b ≡ q → same (steps k (top t s)) b ≡ false
       by false e = e
       by true e =
-          let both = and-eq-true-iff (eqb (length (steps k (top t s))) (length b)) (eqb (changed (steps k (top t s)) b) 0) .0 e in
-          absurd (earlier k h (changed-same (steps k (top t s)) b (eqb-true (length (steps k (top t s))) (length b) (both .0)) (eqb-true (changed (steps k (top t s)) b) 0 (both .1))))
+          let both =
+          and-eq-true-iff (eqb (length (steps k (top t s))) (length b)) (eqb (changed (steps k (top t s)) b) 0) .0 e in
+          absurd (earlier k h
+          (changed-same (steps k (top t s)) b (eqb-true (length (steps k (top t s))) (length b) (both .0))
+          (eqb-true (changed (steps k (top t s)) b) 0 (both .1))))
 
   is-same : same (steps (rankOf b) (top t s)) b ≡ true
   is-same =
       ap (λ (l : List ℕ). same l b) rank-leads
-      ∙ and-eq-true-iff (eqb (length b) (length b)) (eqb (changed b b) 0) .1 (eq-eqb (length b) (length b) refl, eq-eqb (changed b b) 0 (changed-self b))
+      ∙ and-eq-true-iff (eqb (length b) (length b)) (eqb (changed b b) 0) .1
+      (eq-eqb (length b) (length b) refl, eq-eqb (changed b b) 0 (changed-self b))
 
   pub number-rank : numberOf t s b ≡ rankOf b
   number-rank = first-is (λ n. same (steps n (top t s)) b) (N t s) (rankOf b) (rank-lt p) is-same not-same

@@ -1,5 +1,5 @@
--- What the two scans of the number find in lent beats, which may be no schedule: y is the first beat that is not 1, x the first from
--- there on that is not 0.
+-- What the two scans of the number find in lent beats, which may be no schedule: y is the first beat that is not 1, x
+-- the first from there on that is not 0.
 --     split        the beats are y ones, then zeros up to x, then the rest
 --     split-take   so the beats before x are these ones and zeros
 --     flat-found   nothing stands after the zeros
@@ -36,15 +36,19 @@ module _ {b : List ℕ} {y x : ℕ} (sy : Skips b 0 1 y) (sx : Skips b y 0 x) wh
       let first = split-ups y b (sy .high) (λ k l. sy .run k (omega arith) l) in
       let beat : (k : ℕ) → getD (first .0) k 0 ≡ getD b (y + k) 0 =
       λ k. sym (ap (λ (l : List ℕ). getD l (y + k) 0) (first .1) ∙ get-ups y k (y + k) (first .0) refl) in
-      let long : x - y ≤ length (first .0) = omega (arith, sx .low, sx .high, ap length (first .1), shape-length y 0 (first .0)) in
-      let second = split-downs (x - y) (first .0) long (λ k l. beat k ∙ sx .run (y + k) (omega arith) (omega (arith, sx .low))) in
+      let long : x - y ≤ length (first .0) =
+      omega (arith, sx .low, sx .high, ap length (first .1), shape-length y 0 (first .0)) in
+      let second =
+      split-downs (x - y) (first .0) long (λ k l. beat k ∙ sx .run (y + k) (omega arith) (omega (arith, sx .low))) in
       (second .0, first .1 ∙ ap (ups y) (second .1))
 
   pub split-take : take x b ≡ ups y (downs (x - y) [])
   split-take =
       let w = ups y (downs (x - y) []) in
       let long : x ≡ length w + 0 = omega (arith, sx .low, shape-length y (x - y) []) in
-      ap₂ take long (split .1 ∙ sym (shape-join y (x - y) (split .0))) ∙ take-append-add w (split .0) 0 ∙ shape-join y (x - y) []
+      ap₂ take long (split .1 ∙ sym (shape-join y (x - y) (split .0)))
+      ∙ take-append-add w (split .0) 0
+      ∙ shape-join y (x - y) []
 
   pub flat-found : x ≡ length b → Found b y x
   flat-found h = by (split .0) (split .1)
@@ -59,7 +63,9 @@ module _ {b : List ℕ} {y x : ℕ} (sy : Skips b 0 1 y) (sx : Skips b y 0 x) wh
       rest : (p q : ℕ) (c : ℕ) (z : List ℕ) → b ≡ ups p (downs q (c ∷ z)) → p ≡ y → q ≡ x - y → c ≡ 1
       rest p q c z e ep eq =
           let here : getD b x 0 ≡ c =
-          ap (λ (l : List ℕ). getD l x 0) e ∙ get-ups p q x (downs q (c ∷ z)) (omega (arith, sx .low)) ∙ get-downs q 0 q (c ∷ z) (omega arith) in
+          ap (λ (l : List ℕ). getD l x 0) e
+          ∙ get-ups p q x (downs q (c ∷ z)) (omega (arith, sx .low))
+          ∙ get-downs q 0 q (c ∷ z) (omega arith) in
           single c here
         where
           single : (c : ℕ) → getD b x 0 ≡ c → c ≡ 1
@@ -71,8 +77,10 @@ module _ {b : List ℕ} {y x : ℕ} (sy : Skips b 0 1 y) (sx : Skips b y 0 x) wh
       by p q [] e ep eq = absurd (omega (arith, sx .low, ap length e, shape-length p q []))
       by p zero (c ∷ z) e ep eq =
           let same : x ≡ y = omega (arith, sx .low) in
-          let met : getD b y 0 ≡ 1 = ap (λ (l : List ℕ). getD l y 0) e ∙ get-ups p 0 y (c ∷ z) (omega arith) ∙ rest p zero c z e ep eq in
+          let met : getD b y 0 ≡ 1 =
+          ap (λ (l : List ℕ). getD l y 0) e ∙ get-ups p 0 y (c ∷ z) (omega arith) ∙ rest p zero c z e ep eq in
           absurd (sy .stop (omega arith) met)
       by zero (suc q) (c ∷ z) e ep eq = absurd (omega arith)
       by (suc p) (suc q) (c ∷ z) e ep eq =
-          rising p q z (e ∙ ap (λ (v : ℕ). ups (suc p) (downs (suc q) (v ∷ z))) (rest (suc p) (suc q) c z e ep eq)) (omega arith) (omega (arith, sx .low))
+          rising p q z (e ∙ ap (λ (v : ℕ). ups (suc p) (downs (suc q) (v ∷ z))) (rest (suc p) (suc q) c z e ep eq))
+          (omega arith) (omega (arith, sx .low))

@@ -67,7 +67,9 @@ module _ {t s : ℕ} (few : s ≤ t) where
       (elim (decLt (suc i) (N t s)) [
         | yes more ↦ S-placed t s few .inner i (omega (arith, S-length)) ∙ sym (form-rank few (suc i) more)
         | no more ↦ let all : suc i ≡ N t s = omega arith in
-            S-placed t s few .last i (omega (arith, S-length)) ∙ sym (ap (λ (k : ℕ). rankOf (steps k (top t s))) all ∙ ap rankOf (round (top-schedule t s few)) ∙ top-rank t s)
+            S-placed t s few .last i (omega (arith, S-length))
+            ∙ sym
+            (ap (λ (k : ℕ). rankOf (steps k (top t s))) all ∙ ap rankOf (round (top-schedule t s few)) ∙ top-rank t s)
       ])
 
   pub S-lists : Lists (Schedule t s) (S t s)
@@ -79,11 +81,15 @@ module _ {t s : ℕ} (few : s ≤ t) where
       complete : (b : List ℕ) → Schedule t s b → (i : ℕ) × (i < length (S t s)) × (getD (S t s) i [] ≡ b)
       complete b q = at (reaches start q)
         where
-          at : (k : ℕ) × (1 ≤ k) × (k ≤ N t s) × (steps k (top t s) ≡ b) → (i : ℕ) × (i < length (S t s)) × (getD (S t s) i [] ≡ b)
+          at : (k : ℕ) × (1 ≤ k) × (k ≤ N t s) × (steps k (top t s) ≡ b)
+              → (i : ℕ) × (i < length (S t s)) × (getD (S t s) i [] ≡ b)
           at way =
               let i = way .0 - 1 in
-              let k : suc i ≡ way .0 = omega (arith, way .1) in
-              (i, omega (arith, way .2, way .1, S-length), S-steps i (omega (arith, way .2, way .1)) ∙ ap (λ (n : ℕ). steps n (top t s)) k ∙ way .3)
+              let k : suc i ≡ way .0 = omega (arith, way .1) in (
+                i,
+                omega (arith, way .2, way .1, S-length),
+                S-steps i (omega (arith, way .2, way .1)) ∙ ap (λ (n : ℕ). steps n (top t s)) k ∙ way .3,
+              )
 
       single : (i j : ℕ) → i < length (S t s) → j < length (S t s) → getD (S t s) i [] ≡ getD (S t s) j [] → i ≡ j
       single i j h k e =

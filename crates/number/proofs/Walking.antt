@@ -18,7 +18,8 @@ module _ {t s : ℕ} where
   next-mod : {b : List ℕ} → Schedule t s b → rankOf (next b) ≡ suc (rankOf b) % N t s
   next-mod {b} p = by (next-rank p)
     where
-      by : (rankOf (next b) ≡ suc (rankOf b)) ⊎ ((rankOf (next b) ≡ 0) × (suc (rankOf b) ≡ N t s)) → rankOf (next b) ≡ suc (rankOf b) % N t s
+      by : (rankOf (next b) ≡ suc (rankOf b)) ⊎ ((rankOf (next b) ≡ 0) × (suc (rankOf b) ≡ N t s))
+          → rankOf (next b) ≡ suc (rankOf b) % N t s
       by (inl e) = e ∙ sym (mod-eq-of-lt (rw e at (rank-lt (next-schedule p))))
       by (inr e) = e .0 ∙ sym (ap (λ (n : ℕ). n % N t s) (e .1) ∙ mod-self (N t s))
 

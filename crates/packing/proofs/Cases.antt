@@ -1,5 +1,5 @@
--- The definitions of specs/ on small inputs, by computing them: the lines of the manual's four records [E4] and their neighbours, the whole
--- list of the four, and what the program's buffers and turns may be. Assumes nothing.
+-- The definitions of specs/ on small inputs, by computing them: the lines of the manual's four records [E4] and their
+-- neighbours, the whole list of the four, and what the program's buffers and turns may be. Assumes nothing.
 use mathlib.Core.Bool.{true}
 use mathlib.Core.List.{List, [], _∷_, _++_}
 use mathlib.Core.Path.{_≡_, refl}
@@ -30,7 +30,8 @@ first = refl
 -- 3 2 3 10101 [E4]
 second : lineOf (5 ∷ 0 ∷ 2 ∷ 0 ∷ 3 ∷ 2 ∷ 168 ∷ [])
     ≡ 51 ∷ 32 ∷ 50 ∷ 32 ∷ 51 ∷ 32 ∷ 49 ∷ 48 ∷ 49 ∷ 48 ∷ 49 ∷ 10 ∷ []
-unfolding valueOf tabulate N digits decimal beatText every firstFrom ones zeros isSchedule shift found has01 movesNext next steps changed
+unfolding valueOf tabulate N digits decimal beatText every firstFrom ones zeros isSchedule shift found has01 movesNext
+    next steps changed
 second = refl
 
 -- refused 7 0 [E4]
@@ -47,7 +48,8 @@ fourth = refl
 
 -- the empty schedule prints as -: 0 0 0 - [E4]
 empty : lineOf (4 ∷ 0 ∷ 2 ∷ 0 ∷ 0 ∷ 0 ∷ []) ≡ 48 ∷ 32 ∷ 48 ∷ 32 ∷ 48 ∷ 32 ∷ 45 ∷ 10 ∷ []
-unfolding valueOf tabulate N digits decimal beatText every firstFrom ones zeros isSchedule shift found has01 movesNext next steps changed
+unfolding valueOf tabulate N digits decimal beatText every firstFrom ones zeros isSchedule shift found has01 movesNext
+    next steps changed
 empty = refl
 
 -- the manual's four records, one after the other, and the four lines that it gives
@@ -67,12 +69,15 @@ lines =
 
 -- [E4] [E14]
 whole-list : packingList orders ≡ lines
-unfolding listFrom valueOf tabulate N digits decimal beatText every firstFrom ones zeros isSchedule shift found has01 movesNext next steps changed
+unfolding listFrom valueOf tabulate N digits decimal beatText every firstFrom ones zeros isSchedule shift found has01
+    movesNext next steps changed
 whole-list = refl
 
 -- with a byte after them that is no record: refused 9 0, and the list ends [E14]
-cut-list : packingList (orders ++ 12 ∷ []) ≡ lines ++ 114 ∷ 101 ∷ 102 ∷ 117 ∷ 115 ∷ 101 ∷ 100 ∷ 32 ∷ 57 ∷ 32 ∷ 48 ∷ 10 ∷ []
-unfolding listFrom valueOf tabulate N digits decimal beatText every firstFrom ones zeros isSchedule shift found has01 movesNext next steps changed
+cut-list : packingList (orders ++ 12 ∷ [])
+    ≡ lines ++ 114 ∷ 101 ∷ 102 ∷ 117 ∷ 115 ∷ 101 ∷ 100 ∷ 32 ∷ 57 ∷ 32 ∷ 48 ∷ 10 ∷ []
+unfolding listFrom valueOf tabulate N digits decimal beatText every firstFrom ones zeros isSchedule shift found has01
+    movesNext next steps changed
 cut-list = refl
 
 -- buffers that every record and every schedule fit into; one byte less is too little
@@ -96,7 +101,12 @@ turned-at-the-end : Turned [] [] begun [] (after-the-end 0)
 unfolding valueOf
 turned-at-the-end = record {
   inside = record { unread = omega arith; held = omega arith };
-  turns = record { text = []; pass = record { consumed = 0; bytes = 0; front = Front.Short }; lines = rests refl waits; onward = fed refl finished };
+  turns = record {
+    text = [];
+    pass = record { consumed = 0; bytes = 0; front = Front.Short };
+    lines = rests refl waits;
+    onward = fed refl finished;
+  };
 }
 
 turned-out-of-the-buffer : Turned [] [] begun [] (after-the-end 1) → ⊥

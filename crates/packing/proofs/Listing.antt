@@ -45,7 +45,8 @@ module _ (src room : List ℕ) (h : length room ≡ mostBeats) where
   left-is = ap (λ (j : ℕ). leftBy (layoutIn src) src (judge (readRows j src)) room) h
 
   verdict-of : {r : Reading} → readAnswer src room ≡ r → verdictOn src ≡ said.verdict r
-  verdict-of e = sym (told-verdict (ups src) (downs src) number (long src) (verdictOn src)) ∙ ap said.verdict (sym answer-is ∙ e)
+  verdict-of e =
+      sym (told-verdict (ups src) (downs src) number (long src) (verdictOn src)) ∙ ap said.verdict (sym answer-is ∙ e)
 
   pub record Ordered (o : Order) : Type 0 where
     pub taken : verdictOn src ≡ Verdict.Accepted
@@ -88,14 +89,18 @@ module _ (src room : List ℕ) (h : length room ≡ mostBeats) where
       there : readLeft src room ≡ beats ++ drop (ups src + downs src) room
       there = left-is ∙ ap (λ (v : Verdict). leftBy (layoutIn src) src v room) taken
 
-  pub turned-down : (why : Refusal) (m : ℕ) → readAnswer src room ≡ Reading.Refused why m → (verdictOn src ≡ Verdict.Refused why) × (m ≡ eaten why (long src))
+  pub turned-down : (why : Refusal) (m : ℕ) → readAnswer src room ≡ Reading.Refused why m
+      → (verdictOn src ≡ Verdict.Refused why) × (m ≡ eaten why (long src))
   turned-down why m e =
-      let refused = verdict-of e in
-      (refused, ap said.consumed (sym (ap (told (ups src) (downs src) number (long src)) (sym refused) ∙ sym answer-is ∙ e)))
+      let refused = verdict-of e in (
+        refused,
+        ap said.consumed (sym (ap (told (ups src) (downs src) number (long src)) (sym refused) ∙ sym answer-is ∙ e)),
+      )
 
 module _ (src out : List ℕ) where
   -- a line that was written at the front is printed
-  as-printed : {consumed bytes : ℕ} {last : Bool} {after : List ℕ} → consumed ≡ passed src → last ≡ ends src → Written 0 (lineOf src) out after bytes
+  as-printed : {consumed bytes : ℕ} {last : Bool} {after : List ℕ} → consumed ≡ passed src → last ≡ ends src
+      → Written 0 (lineOf src) out after bytes
       → Prints lineOf src out (record { consumed = consumed; bytes = bytes; last = last }) after
   as-printed ec el w = record {
     record-size = ec;
@@ -110,9 +115,11 @@ module _ (src out : List ℕ) where
       → Prints lineOf src out (record { consumed = o .consumed; bytes = bytes; last = false }) after
   list-accepted room h o f u e {bytes} {after} w =
       as-printed (f .is-consumed ∙ ap (passing src) (sym (f .taken))) (ap ending (sym (f .taken)))
-      (subst (λ (l : List ℕ). Written 0 l out after bytes) (rw (f .is-t, f .is-s, f .is-number, e) (ap (text src) (sym (f .taken)))) w)
+      (subst (λ (l : List ℕ). Written 0 l out after bytes)
+      (rw (f .is-t, f .is-s, f .is-number, e) (ap (text src) (sym (f .taken)))) w)
 
-  pub list-refused : (why : Refusal) → verdictOn src ≡ Verdict.Refused why → {consumed number bytes : ℕ} {after : List ℕ}
+  pub list-refused : (why : Refusal) → verdictOn src ≡ Verdict.Refused why
+      → {consumed number bytes : ℕ} {after : List ℕ}
       → consumed ≡ eaten why (long src) → number ≡ refusalNumber why → Written 0 (refusedLine why) out after bytes
       → Prints lineOf src out (record { consumed = consumed; bytes = bytes; last = eqb number 9 }) after
   list-refused why e {bytes = bytes} {after} ec en w =

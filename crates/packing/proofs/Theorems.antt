@@ -1,6 +1,7 @@
 -- What the packing list prints of an input, beyond the contracts.
 --     line-own         the line of a record depends on no byte after it
---     pieces-list      however an input is cut into pieces, the texts of the passes one after the other are its packing list [E15]
+--     pieces-list      however an input is cut into pieces, the texts of the passes one after the other
+--                      are its packing list [E15]
 -- Assumes nothing.
 use mathlib.Core.Bool.{false}
 use mathlib.Core.List.{List, [], _++_}
@@ -22,5 +23,6 @@ line-own src more e = ap (text (src ++ more)) (verdict-alone src more e) ∙ by 
         ap (text (src ++ more)) r ∙ rw (same .1, same .2, same .3, same .0) (ap (text src) (sym r))
     by (Verdict.Refused why) r = ap (text (src ++ more)) r ∙ ap (text src) (sym r)
 
-pub pieces-list : {room : ℕ} {input : List ℕ} {texts : List (List ℕ)} → Listing lineOf widest room false [] input texts → joined texts ≡ packingList input
+pub pieces-list : {room : ℕ} {input : List ℕ} {texts : List (List ℕ)} → Listing lineOf widest room false [] input texts
+    → joined texts ≡ packingList input
 pieces-list = listing-list lineOf line-own

@@ -105,5 +105,6 @@ module _ (room : ℕ) (src : List ℕ) where
         pub read-unknown : isUnknown (layoutIn src) ≡ true → judge (readRows room src) ≡ Verdict.Refused UnknownKind
         read-unknown k = simp (le-ltb room mostBeats h, e, le-ltb (long src) 2 l, k)
 
-        pub read-kind : isUnknown (layoutIn src) ≡ false → judge (readRows room src) ≡ judge (kindRows (layoutIn src) src)
+        pub read-kind : isUnknown (layoutIn src) ≡ false
+            → judge (readRows room src) ≡ judge (kindRows (layoutIn src) src)
         read-kind k = simp (le-ltb room mostBeats h, e, le-ltb (long src) 2 l, k)

@@ -25,7 +25,8 @@ leaves-form = refl
 leaves-lent : leftBy (layoutOf 2) (5 ∷ 0 ∷ 2 ∷ 0 ∷ 3 ∷ 2 ∷ 168 ∷ []) (Verdict.Refused NoRoom) (7 ∷ 7 ∷ []) ≡ 7 ∷ 7 ∷ []
 leaves-lent = refl
 
-read-leaves-form : readLeft (5 ∷ 0 ∷ 2 ∷ 0 ∷ 3 ∷ 2 ∷ 168 ∷ []) (replicate mostBeats 7) ≡ 1 ∷ 0 ∷ 1 ∷ 0 ∷ 1 ∷ replicate (mostBeats - 5) 7
+read-leaves-form : readLeft (5 ∷ 0 ∷ 2 ∷ 0 ∷ 3 ∷ 2 ∷ 168 ∷ []) (replicate mostBeats 7)
+    ≡ 1 ∷ 0 ∷ 1 ∷ 0 ∷ 1 ∷ replicate (mostBeats - 5) 7
 unfolding valueOf tabulate firstFrom ones zeros
 read-leaves-form = refl
 

@@ -27,10 +27,14 @@ module _ (src : List ℕ) where
 
   module _ (h : 2 ≤ length src) where
     pub cut-above : longest < long src → true ≡ cut src
-    cut-above k = sym (ap (λ (b : Bool). b || above || short) (le-ltb (length src) 2 h) ∙ ap (λ (b : Bool). b || short) (lt-ltb longest (long src) k))
+    cut-above k =
+        sym (ap (λ (b : Bool). b || above || short) (le-ltb (length src) 2 h)
+        ∙ ap (λ (b : Bool). b || short) (lt-ltb longest (long src) k))
 
     pub cut-rest : long src ≤ longest → ltb (length src) (2 + long src) ≡ cut src
-    cut-rest k = sym (ap (λ (b : Bool). b || above || short) (le-ltb (length src) 2 h) ∙ ap (λ (b : Bool). b || short) (le-ltb longest (long src) k))
+    cut-rest k =
+        sym (ap (λ (b : Bool). b || above || short) (le-ltb (length src) 2 h)
+        ∙ ap (λ (b : Bool). b || short) (le-ltb longest (long src) k))
 
   pub whole-long : cut src ≡ false → (long src ≤ longest) × (2 + long src ≤ length src)
   whole-long e = (below, reaches)

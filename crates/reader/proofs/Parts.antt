@@ -35,7 +35,8 @@ module _ (l k t s : ℕ) (p rest : List ℕ) where
   parts-of h g = (omega arith, omega arith, refl, refl, refl)
 
 pub six : (src : List ℕ) → 6 ≤ length src
-    → src ≡ getD src 0 0 ∷ (getD src 1 0 ∷ (getD src 2 0 ∷ (getD src 3 0 ∷ (getD src 4 0 ∷ (getD src 5 0 ∷ drop 6 src)))))
+    → src
+    ≡ getD src 0 0 ∷ (getD src 1 0 ∷ (getD src 2 0 ∷ (getD src 3 0 ∷ (getD src 4 0 ∷ (getD src 5 0 ∷ drop 6 src)))))
 six [] h = absurd (omega arith)
 six (x₀ ∷ []) h = absurd (omega arith)
 six (x₀ ∷ (x₁ ∷ [])) h = absurd (omega arith)
@@ -50,8 +51,12 @@ unfolding spell
 spell-zeros c m zero f = let same : m + 0 ≡ m = omega arith in ap (λ (j : ℕ). spell j c) same ∙ omega arith
 spell-zeros c m (suc d) f =
     let same : m + suc d ≡ suc (m + d) = omega arith in
-    let double : 2 * spell (m + d) c + getD c (m + d) 0 ≡ 2 * (2 ^ d * spell m c) = omega (arith, spell-zeros c m d f, f (m + d) (omega arith)) in
-    ap (λ (j : ℕ). spell j c) same ∙ double ∙ sym (mul-assoc 2 (2 ^ d) (spell m c)) ∙ ap (λ (x : ℕ). x * spell m c) (mul-comm 2 (2 ^ d) ∙ sym (pow-suc 2 d))
+    let double : 2 * spell (m + d) c + getD c (m + d) 0 ≡ 2 * (2 ^ d * spell m c) =
+    omega (arith, spell-zeros c m d f, f (m + d) (omega arith)) in
+    ap (λ (j : ℕ). spell j c) same
+    ∙ double
+    ∙ sym (mul-assoc 2 (2 ^ d) (spell m c))
+    ∙ ap (λ (x : ℕ). x * spell m c) (mul-comm 2 (2 ^ d) ∙ sym (pow-suc 2 d))
 
 pub unused-packed : (b : List ℕ) → unused (length b) (packed b) ≡ 0
 unused-packed b = elim (ℕ-discrete (length b % 8) 0) [ yes e ↦ none e | no m ↦ some m ]
@@ -59,7 +64,8 @@ unused-packed b = elim (ℕ-discrete (length b % 8) 0) [ yes e ↦ none e | no m
     none : length b % 8 ≡ 0 → unused (length b) (packed b) ≡ 0
     none e =
         let zero-bits : 8 * ((length b + 7) / 8) - length b ≡ 0 = omega arith in
-        ap (λ (j : ℕ). getD (packed b) ((length b + 7) / 8 - 1) 0 % 2 ^ j) zero-bits ∙ mod-one (getD (packed b) ((length b + 7) / 8 - 1) 0)
+        ap (λ (j : ℕ). getD (packed b) ((length b + 7) / 8 - 1) 0 % 2 ^ j) zero-bits
+        ∙ mod-one (getD (packed b) ((length b + 7) / 8 - 1) 0)
 
     some : ((length b % 8 ≡ 0) → ⊥) → unused (length b) (packed b) ≡ 0
     some m =
@@ -68,7 +74,8 @@ unused-packed b = elim (ℕ-discrete (length b % 8) 0) [ yes e ↦ none e | no m
         let bits : 8 * ((length b + 7) / 8) - length b ≡ 8 - length b % 8 = omega (arith, m) in
         let eight : length b % 8 + (8 - length b % 8) ≡ 8 = omega arith in
         let past : (i : ℕ) → length b % 8 ≤ i → getD c i 0 ≡ 0 =
-        λ i h. getD-drop (8 * (length b / 8)) b i 0 ∙ List·getD-eq-default b 0 {n = 8 * (length b / 8) + i} (omega arith) in
+        λ i h.
+        getD-drop (8 * (length b / 8)) b i 0 ∙ List·getD-eq-default b 0 {n = 8 * (length b / 8) + i} (omega arith) in
         ap₂ (λ (i k : ℕ). getD (packed b) i 0 % 2 ^ k) byte-at bits
         ∙ ap (λ (v : ℕ). v % 2 ^ (8 - length b % 8)) (
         getD-tabulate (bytesFor (length b)) (λ i. spell 8 (drop (8 * i) b)) (length b / 8) (omega (arith, m))
@@ -79,7 +86,8 @@ unused-packed b = elim (ℕ-discrete (length b % 8) 0) [ yes e ↦ none e | no m
 
 module _ (room : ℕ) (src : List ℕ) where
   pub read-facts : judge (readRows room src) ≡ Verdict.Accepted
-      → (mostBeats ≤ room) × (cut src ≡ false) × (2 ≤ long src) × (isUnknown (layoutIn src) ≡ false) × (judge (kindRows (layoutIn src) src) ≡ Verdict.Accepted)
+      → (mostBeats ≤ room) × (cut src ≡ false) × (2 ≤ long src) × (isUnknown (layoutIn src) ≡ false)
+      × (judge (kindRows (layoutIn src) src) ≡ Verdict.Accepted)
   read-facts e =
       let front = judge-front (headRows room src) (kindRows (layoutIn src) src) e in
       let none = accepted-none (headRows room src) front in (

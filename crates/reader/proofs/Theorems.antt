@@ -121,7 +121,8 @@ pub record Says (src : List ℕ) (t s n : ℕ) (b : List ℕ) (bytes : ℕ) : Ty
   pub bytes-are : 2 + long src ≡ bytes
 
 -- a record that was written, with something after it
-module _ (t s : ℕ) (b rest : List ℕ) (a : Allowed t s) (q : Schedule t s b) (kind : ℕ) (u : isUnknown (layoutOf kind) ≡ false) where
+module _ (t s : ℕ) (b rest : List ℕ) (a : Allowed t s) (q : Schedule t s b) (kind : ℕ)
+    (u : isUnknown (layoutOf kind) ≡ false) where
   abbrev p : List ℕ
   p = payload (layoutOf kind) t s b
 
@@ -158,13 +159,21 @@ module _ (t s : ℕ) (b rest : List ℕ) (a : Allowed t s) (q : Schedule t s b) 
   whole : cut src ≡ false
   whole =
       let longer : 2 + long src ≤ length src =
-      omega (arith, parts .0, counts-at-four kind u, record-size (layoutOf kind) kind t s b, length-append (recordOf kind t s b) rest) in
-      sym (cut-rest src (omega (arith, longer)) (omega (arith, parts .0, small))) ∙ le-ltb (length src) (2 + long src) longer
+      omega (
+        arith,
+        parts .0,
+        counts-at-four kind u,
+        record-size (layoutOf kind) kind t s b,
+        length-append (recordOf kind t s b) rest,
+      ) in
+      sym (cut-rest src (omega (arith, longer)) (omega (arith, parts .0, small)))
+      ∙ le-ltb (length src) (2 + long src) longer
 
   pub says : Says src t s (numberOf t s b) b (length (recordOf kind t s b))
   says = record {
     accepted = λ room h.
-        read-kind room src h whole (omega (arith, parts .0, counts-at-four kind u)) (held .known) ∙ rows-held src a q (layoutIn src) held;
+        read-kind room src h whole (omega (arith, parts .0, counts-at-four kind u)) (held .known)
+        ∙ rows-held src a q (layoutIn src) held;
     t-is = held .t-is;
     s-is = held .s-is;
     number-is = number-held src a q (layoutIn src) held;
@@ -173,22 +182,28 @@ module _ (t s : ℕ) (b rest : List ℕ) (a : Allowed t s) (q : Schedule t s b) 
   }
 
 -- what reading such a slice answers and leaves
-says-all : (t s : ℕ) (b rest lent : List ℕ) → mostBeats ≤ length lent → {src : List ℕ} {n bytes : ℕ} → Says src t s n b bytes
-    → (readAnswer src lent ≡ Reading.Accepted (record { t = t; s = s; number = n; consumed = bytes })) × (readLeft src lent ≡ b ++ drop (t + s) lent)
+says-all : (t s : ℕ) (b rest lent : List ℕ) → mostBeats ≤ length lent → {src : List ℕ} {n bytes : ℕ}
+    → Says src t s n b bytes
+    → (readAnswer src lent ≡ Reading.Accepted (record { t = t; s = s; number = n; consumed = bytes }))
+    × (readLeft src lent ≡ b ++ drop (t + s) lent)
 says-all t s b rest lent h {src} u =
     let v = u .accepted (length lent) h in (
       ap (answerBy (layoutIn src) src) v ∙ rw (u .number-is, u .t-is, u .s-is, u .bytes-are),
-      ap (λ (w : Verdict). leftBy (layoutIn src) src w lent) v ∙ ap₂ (λ (c : List ℕ) (n : ℕ). c ++ drop n lent) (u .beats-are) (ap₂ (λ (i j : ℕ). i + j) (u .t-is) (u .s-is)),
+      ap (λ (w : Verdict). leftBy (layoutIn src) src w lent) v
+          ∙ ap₂ (λ (c : List ℕ) (n : ℕ). c ++ drop n lent) (u .beats-are)
+          (ap₂ (λ (i j : ℕ). i + j) (u .t-is) (u .s-is)),
     )
 
 module _ (kind t s : ℕ) (b out rest lent : List ℕ) where
   pub written-read : judge (writeRows kind t s b out) ≡ Verdict.Accepted → mostBeats ≤ length lent
-      → (readAnswer (recordOf kind t s b ++ rest) lent ≡ Reading.Accepted (record { t = t; s = s; number = numberOf t s b; consumed = length (recordOf kind t s b) }))
+      → (readAnswer (recordOf kind t s b ++ rest) lent
+      ≡ Reading.Accepted (record { t = t; s = s; number = numberOf t s b; consumed = length (recordOf kind t s b) }))
       × (readLeft (recordOf kind t s b ++ rest) lent ≡ b ++ drop (t + s) lent)
   written-read e h =
       let known = accepted-none (writeRows kind t s b out) e _ (List·Memᴰ·head refl) in
       let rows = sym (write-kind kind t s b out known) ∙ e in
-      let form = accepted-schedule t s b (judge-front (checkRows t s b) (roomRow (recordOf kind t s b) out ∷ []) rows) in
+      let form =
+      accepted-schedule t s b (judge-front (checkRows t s b) (roomRow (recordOf kind t s b) out ∷ []) rows) in
       says-all t s b rest lent h (says t s b rest (form .0) (form .1) kind known)
 
 -- a slice of bytes that is accepted
@@ -230,7 +245,8 @@ module _ (src : List ℕ) (bytes : Bytes src) (room : ℕ) (e : judge (readRows 
       by : (k : Layout) → isUnknown k ≡ false → judge (kindRows k src) ≡ Verdict.Accepted
           → length (bodyAt (countsAt k) src) ≡ long src - countsAt k → Bytes (bodyAt (countsAt k) src)
           → payload k (upsAt (countsAt k) src) (downsAt (countsAt k) src)
-          (meant k (upsAt (countsAt k) src) (downsAt (countsAt k) src) (bodyAt (countsAt k) src)) ≡ bodyAt (countsAt k) src
+          (meant k (upsAt (countsAt k) src) (downsAt (countsAt k) src) (bodyAt (countsAt k) src))
+          ≡ bodyAt (countsAt k) src
       by (Layout.Numbered at) u f n m =
           let g = numbered-facts at src f in
           let number = valueOf (bodyAt at src) in
@@ -246,7 +262,8 @@ module _ (src : List ℕ) (bytes : Bytes src) (room : ℕ) (e : judge (readRows 
   front : src ≡ getD src 0 0 ∷ (getD src 1 0 ∷ (getD src 2 0 ∷ (getD src 3 0 ∷ (ups src ∷ (downs src ∷ drop 6 src)))))
   front =
       six src (omega (arith, at-four, reaches))
-      ∙ ap (λ (j : ℕ). getD src 0 0 ∷ (getD src 1 0 ∷ (getD src 2 0 ∷ (getD src 3 0 ∷ (upsAt j src ∷ (downsAt j src ∷ drop 6 src))))))
+      ∙ ap (λ (j : ℕ).
+      getD src 0 0 ∷ (getD src 1 0 ∷ (getD src 2 0 ∷ (getD src 3 0 ∷ (upsAt j src ∷ (downsAt j src ∷ drop 6 src))))))
       (sym at-four)
 
   two-bytes : (x y : ℕ) → x < 256 → y < 256 → lowFirst 2 (valueOf (x ∷ (y ∷ []))) ≡ x ∷ (y ∷ [])
@@ -264,7 +281,9 @@ module _ (src : List ℕ) (bytes : Bytes src) (room : ℕ) (e : judge (readRows 
       ∙ two-bytes (getD src 0 0) (getD src 1 0) (bytes 0) (bytes 1)
 
   kind-bytes : lowFirst 2 kind ≡ getD src 2 0 ∷ (getD src 3 0 ∷ [])
-  kind-bytes = ap (lowFirst 2) (ap (λ (w : List ℕ). valueOf (take 2 (drop 2 w))) front) ∙ two-bytes (getD src 2 0) (getD src 3 0) (bytes 2) (bytes 3)
+  kind-bytes =
+      ap (lowFirst 2) (ap (λ (w : List ℕ). valueOf (take 2 (drop 2 w))) front)
+      ∙ two-bytes (getD src 2 0) (getD src 3 0) (bytes 2) (bytes 3)
 
   pub read-written : recordOf kind (ups src) (downs src) b ≡ take (2 + long src) src
   read-written =
@@ -272,19 +291,24 @@ module _ (src : List ℕ) (bytes : Bytes src) (room : ℕ) (e : judge (readRows 
       let all : suc (suc (suc (suc (suc (suc n))))) ≡ 2 + long src = omega (arith, at-four, reaches) in
       ap (λ (w : List ℕ). lowFirst 2 (at + length w) ++ (lowFirst 2 kind ++ (ups src ∷ (downs src ∷ w)))) payload-is
       ∙ ap₂ (λ (u v : List ℕ). u ++ (v ++ (ups src ∷ (downs src ∷ body src)))) long-bytes kind-bytes
-      ∙ ap (λ (j : ℕ). getD src 0 0 ∷ (getD src 1 0 ∷ (getD src 2 0 ∷ (getD src 3 0 ∷ (ups src ∷ (downs src ∷ bodyAt j src)))))) at-four
+      ∙ ap (λ (j : ℕ).
+      getD src 0 0 ∷ (getD src 1 0 ∷ (getD src 2 0 ∷ (getD src 3 0 ∷ (ups src ∷ (downs src ∷ bodyAt j src))))))
+      at-four
       ∙ sym (ap (take (suc (suc (suc (suc (suc (suc n))))))) front)
       ∙ ap (λ (j : ℕ). take j src) all
 
 -- two slices of one kind that mean one form start with one record
-pub one-record : (src dst : List ℕ) → Bytes src → Bytes dst → (room : ℕ) → judge (readRows room src) ≡ Verdict.Accepted → judge (readRows room dst) ≡ Verdict.Accepted
+pub one-record : (src dst : List ℕ) → Bytes src → Bytes dst → (room : ℕ) → judge (readRows room src) ≡ Verdict.Accepted
+    → judge (readRows room dst) ≡ Verdict.Accepted
     → valueOf (take 2 (drop 2 src)) ≡ valueOf (take 2 (drop 2 dst)) → ups src ≡ ups dst → downs src ≡ downs dst
     → meant (layoutIn src) (ups src) (downs src) (body src) ≡ meant (layoutIn dst) (ups dst) (downs dst) (body dst)
     → take (2 + long src) src ≡ take (2 + long dst) dst
 one-record src dst f g room e h k t s b =
     sym (read-written src f room e)
     ∙ ap (λ (j : ℕ). recordOf j (ups src) (downs src) (meant (layoutIn src) (ups src) (downs src) (body src))) k
-    ∙ ap₂ (λ (i j : ℕ). recordOf (valueOf (take 2 (drop 2 dst))) i j (meant (layoutIn src) (ups src) (downs src) (body src))) t s
+    ∙ ap₂ (λ (i j : ℕ).
+    recordOf (valueOf (take 2 (drop 2 dst))) i j (meant (layoutIn src) (ups src) (downs src) (body src)))
+    t s
     ∙ ap (recordOf (valueOf (take 2 (drop 2 dst))) (ups dst) (downs dst)) b
     ∙ read-written dst g room h
 
@@ -292,7 +316,8 @@ one-record src dst f g room e h k t s b =
 pub kinds-agree : (t s : ℕ) (b rest lent : List ℕ) → Allowed t s → Schedule t s b → mostBeats ≤ length lent
     → (said.t (readAnswer (recordOf 1 t s b ++ rest) lent) ≡ said.t (readAnswer (recordOf 2 t s b ++ rest) lent))
     × (said.s (readAnswer (recordOf 1 t s b ++ rest) lent) ≡ said.s (readAnswer (recordOf 2 t s b ++ rest) lent))
-    × (said.number (readAnswer (recordOf 1 t s b ++ rest) lent) ≡ said.number (readAnswer (recordOf 2 t s b ++ rest) lent))
+    × (said.number (readAnswer (recordOf 1 t s b ++ rest) lent)
+    ≡ said.number (readAnswer (recordOf 2 t s b ++ rest) lent))
     × (readLeft (recordOf 1 t s b ++ rest) lent ≡ readLeft (recordOf 2 t s b ++ rest) lent)
 kinds-agree t s b rest lent a q h =
     let one = says-all t s b rest lent h (says t s b rest a q 1 refl) in

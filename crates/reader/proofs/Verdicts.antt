@@ -4,7 +4,8 @@
 --     told-refused, told-why, told-accepted     the answer of a verdict that is known
 --     late-counts, late-number, late-check     refusals after which the record's bytes are consumed
 --     form-number          a form of a number in exactly its room is refused as the number is
---     hand-checked         beats that are zeros and ones, of the right length and of allowed counts, are refused by 5 and 6 only
+--     hand-checked         beats that are zeros and ones, of the right length and of allowed counts,
+--                          are refused by 5 and 6 only
 --     spoiled-bits, spoiled-not       the row for kind 2's L and unused bits
 --     unpacked-beats       unpacked beats are zeros and ones
 -- Assumes nothing.
@@ -39,7 +40,8 @@ abbrev pub All : (Refusal → Type 0) → List Row → Type 0
 All P [] = Unit {0}
 All P ((test ⇒ why) ∷ rows) = P why × All P rows
 
-pub given : (P : Refusal → Type 0) (rows : List Row) → All P rows → {why : Refusal} → judge rows ≡ Verdict.Refused why → P why
+pub given : (P : Refusal → Type 0) (rows : List Row) → All P rows → {why : Refusal} → judge rows ≡ Verdict.Refused why
+    → P why
 given P [] a e = let z : _≡_ {A = ℕ} 0 1 = cc in absurd (omega arith)
 given P ((true ⇒ first) ∷ rows) a {why} e = let same : first ≡ why = cc in subst P same (a .0)
 given P ((false ⇒ first) ∷ rows) a e = given P rows (a .1) e
@@ -55,7 +57,8 @@ pub late-number : (t s n : ℕ) {why : Refusal} → judge (numberRows t s n) ≡
 late-number t s n = given Late (numberRows t s n) (λ l. refl, (λ l. refl, (λ l. refl, tt)))
 
 pub late-check : (t s : ℕ) (b : List ℕ) {why : Refusal} → checked t s b ≡ Verdict.Refused why → Late why
-late-check t s b = given Late (checkRows t s b) (λ l. refl, (λ l. refl, (λ l. refl, (λ l. refl, (λ l. refl, (λ l. refl, tt))))))
+late-check t s b =
+    given Late (checkRows t s b) (λ l. refl, (λ l. refl, (λ l. refl, (λ l. refl, (λ l. refl, (λ l. refl, tt))))))
 
 pub told-verdict : (t s n l : ℕ) (v : Verdict) → said.verdict (told t s n l v) ≡ v
 told-verdict t s n l Verdict.Accepted = refl
@@ -72,18 +75,21 @@ module _ {v : Verdict} (e : v ≡ Verdict.Accepted) where
   pub told-accepted : (t s n l : ℕ) → told t s n l Verdict.Accepted ≡ told t s n l v
   told-accepted t s n l = ap (told t s n l) (sym e)
 
-pub form-number : (t s n : ℕ) (out : List ℕ) → length out ≡ t + s → judge (formRows t s n out) ≡ judge (numberRows t s n)
+pub form-number : (t s n : ℕ) (out : List ℕ) → length out ≡ t + s
+    → judge (formRows t s n out) ≡ judge (numberRows t s n)
 form-number t s n out h = by (judge (numberRows t s n)) refl
   where
     by : (v : Verdict) → judge (numberRows t s n) ≡ v → judge (formRows t s n out) ≡ judge (numberRows t s n)
     by Verdict.Accepted e = form-taken t s n out e h ∙ sym e
     by (Verdict.Refused why) e = form-refused t s n out e ∙ sym e
 
-pub hand-checked : (t s : ℕ) (b : List ℕ) → Allowed t s → length b ≡ t + s → ((k : ℕ) → k < length b → getD b k 0 ≤ 1) → checked t s b ≡ judge (handRows t b)
+pub hand-checked : (t s : ℕ) (b : List ℕ) → Allowed t s → length b ≡ t + s → ((k : ℕ) → k < length b → getD b k 0 ≤ 1)
+    → checked t s b ≡ judge (handRows t b)
 hand-checked t s b a n f =
     judge-accepted (countRows t s) (beatRows t s b) (allowed-counts t s a)
     ∙ ap (λ (x : Bool). judge ((not x ⇒ WrongLength) ∷ playRows t b)) (eq-eqb (length b) (t + s) n)
-    ∙ ap (λ (x : Bool). judge ((x ⇒ BadBeat (badBeat b)) ∷ handRows t b)) (le-ltb (badBeat b) (length b) (no-bad-passed b (λ k h q. omega (arith, f k h))))
+    ∙ ap (λ (x : Bool). judge ((x ⇒ BadBeat (badBeat b)) ∷ handRows t b))
+    (le-ltb (badBeat b) (length b) (no-bad-passed b (λ k h q. omega (arith, f k h))))
 
 module _ (t s : ℕ) (p : List ℕ) where
   pub spoiled-long : ((length p ≡ bytesFor (t + s)) → ⊥) → judge (packedRows t s p) ≡ Verdict.Refused WrongSize

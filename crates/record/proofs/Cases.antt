@@ -6,17 +6,50 @@ use mathlib.Core.Path.{_≡_, refl}
 use Prim.Native.Nat.{ℕ, _+_}
 use lib.ListN.{replicate}
 use Rattle.bounded.specs.Bounded.{every, firstFrom}
-use Rattle.refusal.specs.declared.Refusal.the-variants.{WrongSize, UnknownKind, CutShort, NoRoom, EmptyHand, WrongTakeUps, NoSuchNumber}
+use Rattle.refusal.specs.declared.Refusal.the-variants.{
+  WrongSize,
+  UnknownKind,
+  CutShort,
+  NoRoom,
+  EmptyHand,
+  WrongTakeUps,
+  NoSuchNumber,
+}
 use Rattle.refusal.specs.declared.Verdict.{Verdict}
 use Rattle.refusal.specs.Rows.{judge}
 use Rattle.triangle.specs.Count.{N, mostBeats}
 use Rattle.schedule.specs.Schedule.{ones, zeros, isSchedule}
 use Rattle.circle.specs.Step.{shift, found, has01, movesNext, next}
 use Rattle.circle.specs.Walk.{steps, changed}
-use Rattle.record.specs.Bytes.{lowFirst, valueOf, spell, tabulate, bytesFor, packed, beatAt, unpacked, unused, turned}
+use Rattle.record.specs.Bytes.{
+  lowFirst,
+  valueOf,
+  spell,
+  tabulate,
+  bytesFor,
+  packed,
+  beatAt,
+  unpacked,
+  unused,
+  turned,
+}
 use Rattle.record.specs.declared.layout.Layout.{Layout}
 use Rattle.record.specs.Layout.{layoutOf, countsAt, isUnknown}
-use Rattle.record.specs.Record.{payload, recordOf, long, layoutIn, ups, downs, body, upsAt, downsAt, bodyAt, cut, misfit, spoiled}
+use Rattle.record.specs.Record.{
+  payload,
+  recordOf,
+  long,
+  layoutIn,
+  ups,
+  downs,
+  body,
+  upsAt,
+  downsAt,
+  bodyAt,
+  cut,
+  misfit,
+  spoiled,
+}
 use Rattle.record.specs.Record.{meant, meantNumber, readRows, eaten}
 
 -- 12 and 1,020 as two bytes, and back
@@ -293,7 +326,8 @@ unfolding valueOf tabulate firstFrom ones zeros
 one-more = refl
 
 -- its third record: number 5 of (3,2)
-no-number : judge (readRows mostBeats (12 ∷ 0 ∷ 1 ∷ 0 ∷ 3 ∷ 2 ∷ 5 ∷ 0 ∷ 0 ∷ 0 ∷ 0 ∷ 0 ∷ 0 ∷ 0 ∷ [])) ≡ Verdict.Refused NoSuchNumber
+no-number : judge (readRows mostBeats (12 ∷ 0 ∷ 1 ∷ 0 ∷ 3 ∷ 2 ∷ 5 ∷ 0 ∷ 0 ∷ 0 ∷ 0 ∷ 0 ∷ 0 ∷ 0 ∷ []))
+    ≡ Verdict.Refused NoSuchNumber
 unfolding valueOf N
 no-number = refl
 

@@ -50,14 +50,18 @@ pub valued-start : (src : List ℕ) → Valued src (length src) 0
 unfolding valueOf
 valued-start src = record { within = omega arith; so-far = ap valueOf (sym (drop-length src)) }
 
-pub valued-more : {src : List ℕ} {at number : ℕ} → Valued src at number → 0 < at → (x : ℕ) → x ≡ getD src (at - 1) 0 → Valued src (at - 1) (number * 256 + x)
+pub valued-more : {src : List ℕ} {at number : ℕ} → Valued src at number → 0 < at → (x : ℕ) → x ≡ getD src (at - 1) 0
+    → Valued src (at - 1) (number * 256 + x)
 unfolding valueOf
 valued-more {src} {at} {number} u h x e =
     let next : suc (at - 1) ≡ at = omega arith in
-    let here = ap valueOf (drop-cons src (at - 1) 0 (omega (arith, u .within)) ∙ ap (λ (j : ℕ). getD src (at - 1) 0 ∷ drop j src) next) in
+    let here =
+    ap valueOf
+    (drop-cons src (at - 1) 0 (omega (arith, u .within)) ∙ ap (λ (j : ℕ). getD src (at - 1) 0 ∷ drop j src) next) in
     record { within = omega (arith, u .within); so-far = omega (arith, here, u .so-far) }
 
-pub valued-small : {src : List ℕ} {at number : ℕ} → Valued src at number → Bytes src → length src ≤ 8 → 0 < at → number < 256 ^ 7
+pub valued-small : {src : List ℕ} {at number : ℕ} → Valued src at number → Bytes src → length src ≤ 8 → 0 < at
+    → number < 256 ^ 7
 valued-small {src} {at} {number} u f h p =
     let below = value-below (drop at src) (λ i. omega (arith, getD-drop at src i 0, f (at + i))) in
     let few : length (drop at src) ≤ 7 = omega (arith, length-drop at src, u .within) in
@@ -92,8 +96,12 @@ spelled-more {number} {n} {at} {rest} {out} u h =
           ∙ u .so-far;
     }
 
-pub spelled-all : {number n at rest : ℕ} {out : List ℕ} → Spelled number n at rest out → length out ≤ at → out ≡ lowFirst n number
+pub spelled-all : {number n at rest : ℕ} {out : List ℕ} → Spelled number n at rest out → length out ≤ at
+    → out ≡ lowFirst n number
 unfolding lowFirst
 spelled-all {number} {n} {at} {rest} {out} u h =
     let none : n - at ≡ 0 = omega (arith, u .long) in
-    sym (take-all at out h) ∙ sym (append-nil (take at out)) ∙ ap (λ (j : ℕ). take at out ++ lowFirst j rest) (sym none) ∙ u .so-far
+    sym (take-all at out h)
+    ∙ sym (append-nil (take at out))
+    ∙ ap (λ (j : ℕ). take at out ++ lowFirst j rest) (sym none)
+    ∙ u .so-far

@@ -37,7 +37,9 @@ unfolding tabulate
 getD-tabulate zero f i h = absurd (omega arith)
 getD-tabulate (suc n) f i h = elim (ℕ-discrete i n) [
   | yes e ↦ rw e (getD-at (tabulate n f) (f n) [] 0 n (length-tabulate n f))
-  | no m ↦ getD-front (tabulate n f) (f n ∷ []) i (omega (arith, length-tabulate n f, m)) ∙ getD-tabulate n f i (omega (arith, m))
+  | no m ↦
+      getD-front (tabulate n f) (f n ∷ []) i (omega (arith, length-tabulate n f, m))
+      ∙ getD-tabulate n f i (omega (arith, m))
 ]
 
 -- a list filled up to at with the entries of a table
@@ -50,7 +52,8 @@ pub filled-start : (f : ℕ → ℕ) (out : List ℕ) → Filled f (length out) 
 unfolding tabulate
 filled-start f out = record { within = omega arith; long = refl; so-far = refl }
 
-pub filled-more : {f : ℕ → ℕ} {n at : ℕ} {out : List ℕ} → Filled f n at out → at < length out → (x : ℕ) → x ≡ f at → Filled f n (at + 1) (set out at x)
+pub filled-more : {f : ℕ → ℕ} {n at : ℕ} {out : List ℕ} → Filled f n at out → at < length out → (x : ℕ) → x ≡ f at
+    → Filled f n (at + 1) (set out at x)
 unfolding tabulate
 filled-more {f} {n} {at} {out} u h x e = record {
   within = omega (arith, u .long);
@@ -84,13 +87,23 @@ octet-start b from = record { within = omega arith; so-far = refl }
 module _ {b : List ℕ} {from at byte : ℕ} (f : (i : ℕ) → getD b i 0 ≤ 1) (u : Octet b from at byte) (h : at < 8) where
   pub octet-small : byte < 128
   octet-small =
-      omega (arith, u .so-far, spell-below (drop from b) at (λ i. omega (arith, getD-drop from b i 0, f (from + i))), pow-le-pow-right {n = 2} (omega arith) {i = at} {j = 7} (omega arith))
+      omega (
+        arith,
+        u .so-far,
+        spell-below (drop from b) at (λ i. omega (arith, getD-drop from b i 0, f (from + i))),
+        pow-le-pow-right {n = 2} (omega arith) {i = at} {j = 7} (omega arith),
+      )
 
   pub octet-more : (x : ℕ) → x ≡ getD b (from + at) 0 → Octet b from (at + 1) (byte * 2 + x)
-  octet-more x e = record { within = omega arith; so-far = omega (arith, u .so-far, spell-more (drop from b) at, getD-drop from b at 0) }
+  octet-more x e = record {
+    within = omega arith;
+    so-far = omega (arith, u .so-far, spell-more (drop from b) at, getD-drop from b at 0);
+  }
 
 pub octet-all : {b : List ℕ} {from at byte : ℕ} → Octet b from at byte → 8 ≤ at → byte ≡ spell 8 (drop from b)
-octet-all {b} {from} {at} {byte} u h = let all : at ≡ 8 = omega (arith, u .within) in u .so-far ∙ ap (λ (j : ℕ). spell j (drop from b)) all
+octet-all {b} {from} {at} {byte} u h =
+    let all : at ≡ 8 = omega (arith, u .within) in
+    u .so-far ∙ ap (λ (j : ℕ). spell j (drop from b)) all
 
 -- a byte moved up by r bits: its highest bit, what is left of it, and whether anything is
 pub shift-bit : (v r : ℕ) → v < 256 → r < 8 → v * 2 ^ r % 256 / 128 ≡ v / 2 ^ (7 - r) % 2
@@ -160,67 +173,75 @@ pub record Unpacked (p : List ℕ) (n at byte : ℕ) (out : List ℕ) : Type 0 w
 pub unpacked-start : (p out : List ℕ) → Unpacked p (length out) 0 0 out
 unpacked-start p out = record { filled = filled-start (beatAt p) out; over = λ e. refl; inner = λ e. absurd (e refl) }
 
-module _ {p : List ℕ} {n at byte : ℕ} {out : List ℕ} (f : (i : ℕ) → getD p i 0 < 256) (u : Unpacked p n at byte out) where
-  turned-is : turned p at byte ≡ moved p at
-  turned-is = elim (ℕ-discrete (at % 8) 0) [
-    | yes e ↦ turned-new p at byte e ∙ first e
-    | no m ↦ turned-old p at byte m ∙ u .inner m
-  ]
-    where
-      first : at % 8 ≡ 0 → getD p (at / 8) 0 ≡ moved p at
-      first e = let one : 2 ^ (at % 8) ≡ 1 = ap (λ (j : ℕ). 2 ^ j) e in omega (arith, f (at / 8), ap (λ (j : ℕ). getD p (at / 8) 0 * j % 256) one)
+module _ {p : List ℕ} {n at byte : ℕ} {out : List ℕ} (f : (i : ℕ) → getD p i 0 < 256) (u : Unpacked p n at byte out)
+  where
+    turned-is : turned p at byte ≡ moved p at
+    turned-is = elim (ℕ-discrete (at % 8) 0) [
+      | yes e ↦ turned-new p at byte e ∙ first e
+      | no m ↦ turned-old p at byte m ∙ u .inner m
+    ]
+      where
+        first : at % 8 ≡ 0 → getD p (at / 8) 0 ≡ moved p at
+        first e =
+            let one : 2 ^ (at % 8) ≡ 1 = ap (λ (j : ℕ). 2 ^ j) e in
+            omega (arith, f (at / 8), ap (λ (j : ℕ). getD p (at / 8) 0 * j % 256) one)
 
-  pub unpacked-more : at < length out → (x : ℕ) → x ≡ turned p at byte → Unpacked p n (at + 1) (x % 128 * 2) (set out at (x / 128))
-  unpacked-more h x e =
-      let v = getD p (at / 8) 0 in
-      let r : at % 8 < 8 = omega arith in
-      let from : x ≡ v * 2 ^ (at % 8) % 256 = e ∙ turned-is in
-      record {
-        filled = filled-more (u .filled) h (x / 128) (ap (λ (y : ℕ). y / 128) from ∙ shift-bit v (at % 8) (f (at / 8)) r);
-        over = λ z. last from z;
-        inner = λ z. next from z;
-      }
-    where
-      last : x ≡ moved p at → (at + 1) % 8 ≡ 0 → x % 128 * 2 ≡ 0
-      last from z =
-          let seven : at % 8 ≡ 7 = omega arith in
-          let y : x ≡ getD p (at / 8) 0 * 128 % 256 = from ∙ ap (λ (j : ℕ). getD p (at / 8) 0 * 2 ^ j % 256) seven in
-          omega arith
+    pub unpacked-more : at < length out → (x : ℕ) → x ≡ turned p at byte
+        → Unpacked p n (at + 1) (x % 128 * 2) (set out at (x / 128))
+    unpacked-more h x e =
+        let v = getD p (at / 8) 0 in
+        let r : at % 8 < 8 = omega arith in
+        let from : x ≡ v * 2 ^ (at % 8) % 256 = e ∙ turned-is in
+        record {
+          filled =
+              filled-more (u .filled) h (x / 128) (ap (λ (y : ℕ). y / 128) from ∙ shift-bit v (at % 8) (f (at / 8)) r);
+          over = λ z. last from z;
+          inner = λ z. next from z;
+        }
+      where
+        last : x ≡ moved p at → (at + 1) % 8 ≡ 0 → x % 128 * 2 ≡ 0
+        last from z =
+            let seven : at % 8 ≡ 7 = omega arith in
+            let y : x ≡ getD p (at / 8) 0 * 128 % 256 = from ∙ ap (λ (j : ℕ). getD p (at / 8) 0 * 2 ^ j % 256) seven in
+            omega arith
 
-      next : x ≡ moved p at → ((at + 1) % 8 ≡ 0 → ⊥) → x % 128 * 2 ≡ moved p (at + 1)
-      next from z =
-          let same : at / 8 ≡ (at + 1) / 8 = omega (arith, z) in
-          let more : suc (at % 8) ≡ (at + 1) % 8 = omega (arith, z) in
-          ap (λ (y : ℕ). y % 128 * 2) from
-          ∙ shift-on (getD p (at / 8) 0) (at % 8) (omega (arith, z))
-          ∙ ap₂ (λ (i j : ℕ). getD p i 0 * 2 ^ j % 256) same more
+        next : x ≡ moved p at → ((at + 1) % 8 ≡ 0 → ⊥) → x % 128 * 2 ≡ moved p (at + 1)
+        next from z =
+            let same : at / 8 ≡ (at + 1) / 8 = omega (arith, z) in
+            let more : suc (at % 8) ≡ (at + 1) % 8 = omega (arith, z) in
+            ap (λ (y : ℕ). y % 128 * 2) from
+            ∙ shift-on (getD p (at / 8) 0) (at % 8) (omega (arith, z))
+            ∙ ap₂ (λ (i j : ℕ). getD p i 0 * 2 ^ j % 256) same more
 
-  -- the bits that are left are the unused ones
-  unpacked-over : (byte ≡ 0) ↔ (unused at p ≡ 0)
-  unpacked-over = elim (ℕ-discrete (at % 8) 0) [
-    | yes e ↦ (λ z. none e, λ z. u .over e)
-    | no m ↦ (λ z. some m ∙ parts .0 (sym (u .inner m) ∙ z), λ z. u .inner m ∙ parts .1 (sym (some m) ∙ z))
-  ]
-    where
-      parts : (moved p at ≡ 0) ↔ (getD p (at / 8) 0 % 2 ^ (8 - at % 8) ≡ 0)
-      parts = shift-left (getD p (at / 8) 0) (at % 8) (omega arith)
+    -- the bits that are left are the unused ones
+    unpacked-over : (byte ≡ 0) ↔ (unused at p ≡ 0)
+    unpacked-over = elim (ℕ-discrete (at % 8) 0) [
+      | yes e ↦ (λ z. none e, λ z. u .over e)
+      | no m ↦ (λ z. some m ∙ parts .0 (sym (u .inner m) ∙ z), λ z. u .inner m ∙ parts .1 (sym (some m) ∙ z))
+    ]
+      where
+        parts : (moved p at ≡ 0) ↔ (getD p (at / 8) 0 % 2 ^ (8 - at % 8) ≡ 0)
+        parts = shift-left (getD p (at / 8) 0) (at % 8) (omega arith)
 
-      none : at % 8 ≡ 0 → unused at p ≡ 0
-      none e =
-          let zero-bits : 8 * ((at + 7) / 8) - at ≡ 0 = omega arith in
-          ap (λ (j : ℕ). getD p ((at + 7) / 8 - 1) 0 % 2 ^ j) zero-bits ∙ mod-one (getD p ((at + 7) / 8 - 1) 0)
+        none : at % 8 ≡ 0 → unused at p ≡ 0
+        none e =
+            let zero-bits : 8 * ((at + 7) / 8) - at ≡ 0 = omega arith in
+            ap (λ (j : ℕ). getD p ((at + 7) / 8 - 1) 0 % 2 ^ j) zero-bits ∙ mod-one (getD p ((at + 7) / 8 - 1) 0)
 
-      some : (at % 8 ≡ 0 → ⊥) → unused at p ≡ getD p (at / 8) 0 % 2 ^ (8 - at % 8)
-      some m =
-          let byte-at : (at + 7) / 8 - 1 ≡ at / 8 = omega (arith, m) in
-          let bits : 8 * ((at + 7) / 8) - at ≡ 8 - at % 8 = omega (arith, m) in
-          ap₂ (λ (i j : ℕ). getD p i 0 % 2 ^ j) byte-at bits
+        some : (at % 8 ≡ 0 → ⊥) → unused at p ≡ getD p (at / 8) 0 % 2 ^ (8 - at % 8)
+        some m =
+            let byte-at : (at + 7) / 8 - 1 ≡ at / 8 = omega (arith, m) in
+            let bits : 8 * ((at + 7) / 8) - at ≡ 8 - at % 8 = omega (arith, m) in
+            ap₂ (λ (i j : ℕ). getD p i 0 % 2 ^ j) byte-at bits
 
-  pub unpacked-all : length out ≤ at → (eqb byte 0 ≡ eqb (unused n p) 0) × (out ≡ unpacked n p)
-  unpacked-all h =
-      let all : at ≡ n = omega (arith, u .filled .long, u .filled .within) in
-      (same-test byte (unused at p) unpacked-over ∙ ap (λ (j : ℕ). eqb (unused j p) 0) all, filled-all (u .filled) h)
+    pub unpacked-all : length out ≤ at → (eqb byte 0 ≡ eqb (unused n p) 0) × (out ≡ unpacked n p)
+    unpacked-all h =
+        let all : at ≡ n = omega (arith, u .filled .long, u .filled .within) in
+        (same-test byte (unused at p) unpacked-over ∙ ap (λ (j : ℕ). eqb (unused j p) 0) all, filled-all (u .filled) h)
 
 -- beats of which each is 0 or 1, read past their end as well
 pub all-beats : (b : List ℕ) → ((k : ℕ) → k < length b → getD b k 0 ≤ 1) → (k : ℕ) → getD b k 0 ≤ 1
-all-beats b f k = elim (decLt k (length b)) [ yes h ↦ f k h | no h ↦ omega (arith, List·getD-eq-default b 0 {n = k} (omega arith)) ]
+all-beats b f k = elim (decLt k (length b)) [
+  | yes h ↦ f k h
+  | no h ↦ omega (arith, List·getD-eq-default b 0 {n = k} (omega arith))
+]

@@ -1,7 +1,7 @@
 -- How each kind of record is laid out, the manual, "Order record": L in two bytes, the kind in two, t and s in a byte
 -- each, and what the kind holds. Definitions only.
---     layoutOf         the layout of a kind: whether a record of it holds the number of the form or its packed beats, and
---                      the byte at which t stands; s is the next byte, and what is held begins after it [O5]
+--     layoutOf         the layout of a kind: whether a record of it holds the number of the form or its packed beats,
+--                      and the byte at which t stands; s is the next byte, and what is held begins after it [O5]
 --     countsAt         the byte at which t stands
 --     numberBytes      how many bytes the number has
 --     isUnknown        a kind that has no layout

@@ -3,17 +3,18 @@
 --     A record, written:
 --     payload          what a record of a kind has after its counts: the number (kind 1), or the packed beats (kind 2)
 --                      [O5]
---     recordIn, recordOf         the bytes of a record, of a layout and of a kind: its length, its kind, its counts, its
---                      payload [O5] [B2]
+--     recordIn, recordOf         the bytes of a record, of a layout and of a kind: its length, its kind, its
+--                                counts, its payload [O5] [B2]
 --     writeRows        the refusals of writing, in their order: 10, 1, 2, 3, 4, 5, 6, 12 [R19]
 --     writeAnswer, writeLeft     what writing answers, 2 + L, and leaves: the record, and after it what was there;
 --                                knownAnswer and knownLeft where the kind is known [B2]
 --     A record, read:
---     long, layoutIn, ups, downs, body     the parts of the record that a slice starts with; upsAt, downsAt and bodyAt by
---                      the byte at which t stands
+--     long, layoutIn, ups, downs, body     the parts of the record that a slice starts with; upsAt, downsAt and bodyAt
+--                                          by the byte at which t stands
 --     cut              the slice has no whole record, or L is above 1,020 [D1c]
 --     misfit           L is wrong for the kind
---     spoiled          kind 2: what L leaves for the beats is not exactly what the counts need, or an unused bit is not 0
+--     spoiled          kind 2: what L leaves for the beats is not exactly what the counts need,
+--                      or an unused bit is not 0
 --     meant, meantNumber         what a record means: a schedule, and its number [B7]
 --     headRows         the refusals of reading before the kind is known, in their order: 12, 9, 11 (L below 2), 10
 --                      [R13] [B2]

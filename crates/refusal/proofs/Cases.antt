@@ -5,7 +5,14 @@ use mathlib.Core.List.{List, [], _∷_}
 use mathlib.Core.Path.{_≡_, refl, _∙_, ap, sym}
 use native.Mathlib.Omega.{arith}
 use Rattle.refusal.specs.declared.Answer.{Answer}
-use Rattle.refusal.specs.declared.Refusal.the-variants.{TooManyTasks, MoreDownThanUp, WrongLength, BadBeat, EmptyHand, RunTooLong}
+use Rattle.refusal.specs.declared.Refusal.the-variants.{
+  TooManyTasks,
+  MoreDownThanUp,
+  WrongLength,
+  BadBeat,
+  EmptyHand,
+  RunTooLong,
+}
 use Rattle.refusal.specs.declared.Verdict.{Verdict}
 use Rattle.refusal.specs.Refusal.{refusalNumber, refusalPlace}
 use Rattle.refusal.specs.Answer.{refusal, place, verdict, value, answer, left}

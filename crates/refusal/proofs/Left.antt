@@ -11,7 +11,8 @@ use Rattle.refusal.specs.declared.Refusal.{Refusal}
 use Rattle.refusal.specs.declared.Verdict.{Verdict}
 use Rattle.refusal.specs.Answer.{left}
 
-pub left-refused : {v : Verdict} {why : Refusal} → v ≡ Verdict.Refused why → (done lent : List ℕ) → lent ≡ left v done lent
+pub left-refused : {v : Verdict} {why : Refusal} → v ≡ Verdict.Refused why → (done lent : List ℕ)
+    → lent ≡ left v done lent
 left-refused e done lent = ap (λ (w : Verdict). left w done lent) (sym e)
 
 pub left-accepted : {v : Verdict} → v ≡ Verdict.Accepted → (done lent : List ℕ) → done ≡ left v done lent
@@ -25,6 +26,7 @@ pub accepted-left : {v : Verdict} → v ≡ Verdict.Accepted → {c done : List 
     → (Verdict.Accepted ≡ v) × (c ≡ left v done lent)
 accepted-left e {done = done} d lent = (sym e, d ∙ left-accepted e done lent)
 
-pub left-part : (v : Verdict) (n : ℕ) (done lent : List ℕ) → left v done (take n lent) ++ drop n lent ≡ left v (done ++ drop n lent) lent
+pub left-part : (v : Verdict) (n : ℕ) (done lent : List ℕ)
+    → left v done (take n lent) ++ drop n lent ≡ left v (done ++ drop n lent) lent
 left-part Verdict.Accepted n done lent = refl
 left-part (Verdict.Refused why) n done lent = take-append-drop n lent

@@ -13,7 +13,8 @@ use Rattle.refusal.specs.declared.Refusal.{Refusal}
 use Rattle.refusal.specs.declared.Verdict.{Verdict}
 use Rattle.refusal.specs.Rows.{Row, _⇒_, judge}
 
-pub judge-refused : (l m : List Row) (why : Refusal) → judge l ≡ Verdict.Refused why → judge (l ++ m) ≡ Verdict.Refused why
+pub judge-refused : (l m : List Row) (why : Refusal) → judge l ≡ Verdict.Refused why
+    → judge (l ++ m) ≡ Verdict.Refused why
 judge-refused [] m why e = let z : _≡_ {A = ℕ} 0 1 = cc in absurd (omega arith)
 judge-refused ((true ⇒ first) ∷ l) m why e = e
 judge-refused ((false ⇒ first) ∷ l) m why e = judge-refused l m why e

@@ -3,14 +3,24 @@
 --     refused-given, given-refused     an order refuses so exactly if that is given [R11]
 --     accepted-none, none-accepted     it accepts exactly if no row holds [R11]
 --     refused-number      a refusal's number is 1 to 13, so 0 is left for an accepted call [R2]
---     accepted-zero       a verdict that answers 0 accepts; that one which accepts answers 0 is `accepted-refusal` of Cases
---                         [R8]
+--     accepted-zero       a verdict that answers 0 accepts; that one which accepts answers 0 is
+--                         `accepted-refusal` of Cases [R8]
 --     same-refusal        number and place say which refusal it is [R2]
 --     verdict-answer      an answer has the verdict that it was made from
 --     answer-refused, answer-value     what an answer says of the verdict that it was made from
 -- Assumes nothing.
 use mathlib.Core.Bool.{true, false, true≢false}
-use mathlib.Core.List.{List, [], _∷_, _++_, List·Memᴰ, List·Memᴰ·head, List·Memᴰ·tail, List·Memᴰ·cases-cons, List·Memᴰ·not-nil}
+use mathlib.Core.List.{
+  List,
+  [],
+  _∷_,
+  _++_,
+  List·Memᴰ,
+  List·Memᴰ·head,
+  List·Memᴰ·tail,
+  List·Memᴰ·cases-cons,
+  List·Memᴰ·not-nil,
+}
 use mathlib.Core.Logic.{⊎-elim}
 use mathlib.Core.Path.{_≡_, refl, _∙_, ap, ap₂, sym}
 use Prim.Native.Nat.{ℕ, _≤_}
@@ -18,7 +28,21 @@ use native.Mathlib.Omega.{arith}
 use lib.ListN.{getD}
 use Rattle.refusal.specs.declared.Answer.{Answer}
 use Rattle.refusal.specs.declared.Refusal.{Refusal}
-use Rattle.refusal.specs.declared.Refusal.the-variants.{TooManyTasks, MoreDownThanUp, WrongLength, BadBeat, EmptyHand, WrongTakeUps, NoSuchNumber, NoSuchTables, CutShort, UnknownKind, WrongSize, NoRoom, RunTooLong}
+use Rattle.refusal.specs.declared.Refusal.the-variants.{
+  TooManyTasks,
+  MoreDownThanUp,
+  WrongLength,
+  BadBeat,
+  EmptyHand,
+  WrongTakeUps,
+  NoSuchNumber,
+  NoSuchTables,
+  CutShort,
+  UnknownKind,
+  WrongSize,
+  NoRoom,
+  RunTooLong,
+}
 use Rattle.refusal.specs.declared.Verdict.{Verdict}
 use Rattle.refusal.specs.Refusal.{refusalNumber, refusalPlace}
 use Rattle.refusal.specs.Answer.{refusal, verdict, answer}
@@ -34,7 +58,12 @@ pub refused-given : (l : List Row) (why : Refusal) → judge l ≡ Verdict.Refus
 refused-given [] why e = let z : _≡_ {A = ℕ} 0 1 = cc in absurd (omega arith)
 refused-given ((true ⇒ first) ∷ l) why e =
     let same : first ≡ why = cc in
-    record { front = []; back = l; split = ap (λ (r : Refusal). (true ⇒ r) ∷ l) same; before = λ r m. absurd (List·Memᴰ·not-nil m) }
+    record {
+      front = [];
+      back = l;
+      split = ap (λ (r : Refusal). (true ⇒ r) ∷ l) same;
+      before = λ r m. absurd (List·Memᴰ·not-nil m);
+    }
 refused-given ((false ⇒ first) ∷ l) why e =
     let g = refused-given l why e in
     record {
@@ -44,7 +73,8 @@ refused-given ((false ⇒ first) ∷ l) why e =
       before = λ r m. ⊎-elim (λ here. ap test here) (λ later. g .before r later) (List·Memᴰ·cases-cons m);
     }
 
-front-passed : (front back : List Row) (why : Refusal) → ((r : Row) → List·Memᴰ r front → test r ≡ false) → judge (front ++ (true ⇒ why) ∷ back) ≡ Verdict.Refused why
+front-passed : (front back : List Row) (why : Refusal) → ((r : Row) → List·Memᴰ r front → test r ≡ false)
+    → judge (front ++ (true ⇒ why) ∷ back) ≡ Verdict.Refused why
 front-passed [] back why f = refl
 front-passed ((true ⇒ first) ∷ front) back why f = absurd (true≢false (f (true ⇒ first) (List·Memᴰ·head refl)))
 front-passed ((false ⇒ first) ∷ front) back why f = front-passed front back why (λ r m. f r (List·Memᴰ·tail m))
@@ -55,7 +85,8 @@ given-refused l why g = ap judge (g .split) ∙ front-passed (g .front) (g .back
 pub accepted-none : (l : List Row) → judge l ≡ Verdict.Accepted → (r : Row) → List·Memᴰ r l → test r ≡ false
 accepted-none [] e r m = absurd (List·Memᴰ·not-nil m)
 accepted-none ((true ⇒ first) ∷ l) e r m = let z : _≡_ {A = ℕ} 0 1 = cc in absurd (omega arith)
-accepted-none ((false ⇒ first) ∷ l) e r m = ⊎-elim (λ here. ap test here) (λ later. accepted-none l e r later) (List·Memᴰ·cases-cons m)
+accepted-none ((false ⇒ first) ∷ l) e r m =
+    ⊎-elim (λ here. ap test here) (λ later. accepted-none l e r later) (List·Memᴰ·cases-cons m)
 
 pub none-accepted : (l : List Row) → ((r : Row) → List·Memᴰ r l → test r ≡ false) → judge l ≡ Verdict.Accepted
 none-accepted [] f = refl
@@ -66,11 +97,13 @@ none-accepted ((false ⇒ first) ∷ l) f = none-accepted l (λ r m. f r (List·
 named : ℕ → ℕ → Refusal
 named n at =
     getD
-    (TooManyTasks ∷ TooManyTasks ∷ MoreDownThanUp ∷ WrongLength ∷ BadBeat at ∷ EmptyHand at ∷ WrongTakeUps ∷ NoSuchNumber ∷ NoSuchTables ∷ CutShort ∷ UnknownKind ∷ WrongSize ∷ NoRoom ∷ RunTooLong ∷ [])
+    (TooManyTasks ∷ TooManyTasks ∷ MoreDownThanUp ∷ WrongLength ∷ BadBeat at ∷ EmptyHand at ∷ WrongTakeUps ∷
+    NoSuchNumber ∷ NoSuchTables ∷ CutShort ∷ UnknownKind ∷ WrongSize ∷ NoRoom ∷ RunTooLong ∷ [])
     n
     TooManyTasks
 
-named-back : (why : Refusal) → (named (refusalNumber why) (refusalPlace why) ≡ why) × (1 ≤ refusalNumber why) × (refusalNumber why ≤ 13)
+named-back : (why : Refusal)
+    → (named (refusalNumber why) (refusalPlace why) ≡ why) × (1 ≤ refusalNumber why) × (refusalNumber why ≤ 13)
 unfolding named
 named-back TooManyTasks = (refl, omega arith, omega arith)
 named-back MoreDownThanUp = (refl, omega arith, omega arith)

@@ -1,5 +1,5 @@
--- The definitions of specs/ on small inputs: one that fits, and one refused for each part, so that no part is empty words [A2] [A7] [E2].
--- Assumes nothing.
+-- The definitions of specs/ on small inputs: one that fits, and one refused for each part, so that no part is empty
+-- words [A2] [A7] [E2]. Assumes nothing.
 use mathlib.Core.Bool.{true, false}
 use mathlib.Core.List.{List, [], _∷_}
 use mathlib.Core.Path.{_≡_, refl, _∙_, ap, sym}
@@ -8,7 +8,14 @@ use native.Mathlib.Omega.{arith}
 use lib.ListN.{getD}
 use Rattle.bounded.specs.Bounded.{every, firstFrom}
 use Rattle.refusal.specs.declared.Refusal.{Refusal}
-use Rattle.refusal.specs.declared.Refusal.the-variants.{TooManyTasks, MoreDownThanUp, WrongLength, BadBeat, EmptyHand, WrongTakeUps}
+use Rattle.refusal.specs.declared.Refusal.the-variants.{
+  TooManyTasks,
+  MoreDownThanUp,
+  WrongLength,
+  BadBeat,
+  EmptyHand,
+  WrongTakeUps,
+}
 use Rattle.refusal.specs.declared.Verdict.{Verdict}
 use Rattle.refusal.specs.Answer.{refusal, place}
 use Rattle.refusal.proofs.Theorems.{refused-number}
@@ -244,7 +251,8 @@ refuses-nothing why r =
     omega (arith, ap refusal accepted, refused-number why .0)
 
 refuses-elsewhere : Refuses 2 2 (1 ∷ 0 ∷ 0 ∷ 1 ∷ []) (EmptyHand 1) → ⊥
-refuses-elsewhere r = omega (arith, ap place (sym checked-1001 ∙ refuses-refused 2 2 (1 ∷ 0 ∷ 0 ∷ 1 ∷ []) (EmptyHand 1) r))
+refuses-elsewhere r =
+    omega (arith, ap place (sym checked-1001 ∙ refuses-refused 2 2 (1 ∷ 0 ∷ 0 ∷ 1 ∷ []) (EmptyHand 1) r))
 
 refuses-no-later-row : Refuses 1 1 (0 ∷ 2 ∷ []) (EmptyHand 0) → ⊥
 refuses-no-later-row r = omega (arith, ap refusal (sym checked-02 ∙ refuses-refused 1 1 (0 ∷ 2 ∷ []) (EmptyHand 0) r))

@@ -10,7 +10,9 @@ use lib.ListN.{length, set, take, drop}
 use lib.Seq.{take-length, drop-length}
 
 pub copied : (src dst : List ℕ) → length src ≡ length dst → take (length src) src ++ drop (length src) dst ≡ src
-copied src dst e = rw (take-length src) (ap (λ (j : ℕ). src ++ drop j dst) e ∙ ap (λ (w : List ℕ). src ++ w) (drop-length dst) ∙ append-nil src)
+copied src dst e =
+    rw (take-length src)
+    (ap (λ (j : ℕ). src ++ drop j dst) e ∙ ap (λ (w : List ℕ). src ++ w) (drop-length dst) ∙ append-nil src)
 
 pub stored : (b : List ℕ) (j x : ℕ) → j < length b → drop j (set b j x) ≡ x ∷ drop (suc j) b
 stored [] j x h = absurd (omega arith)

@@ -1,8 +1,11 @@
 -- A schedule by a running test, from its first beat and from its last.
---     plays h b                       with h in hand before them, no beat of b is bad and none sets down with nothing in hand
---     schedule-plays, plays-schedule  the beats of a schedule play from an empty hand, and beats that play so are a schedule of their counts [A3]
+--     plays h b                       with h in hand before them, no beat of b is bad and none sets
+--                                     down with nothing in hand
+--     schedule-plays, plays-schedule  the beats of a schedule play from an empty hand, and beats that play so are a
+--                                     schedule of their counts [A3]
 --     schedule-zeros, schedule-le     a schedule of t, s has s zeros, no more than t
---     Turned                          the same on a list written last beat first: each 0 stands before (that is, after in time) more ones than zeros
+--     Turned                          the same on a list written last beat first: each 0 stands before (that is, after
+--                                     in time) more ones than zeros
 --     level                           a turned list has no more zeros than ones
 --     turned, unturned                beats that play, turned round, are Turned, and the other way about
 --     ones-turn, zeros-turn           turning a list round keeps its counts
@@ -50,8 +53,10 @@ ahead-plays : (h : ℕ) (b : List ℕ)
 unfolding plays ones zeros
 ahead-plays h [] f g = refl
 ahead-plays zero (zero ∷ b) f g = absurd (omega (arith, g 1 (omega arith)))
-ahead-plays (suc h) (zero ∷ b) f g = ahead-plays h b (λ k l. f (suc k) (omega arith)) (λ k l. omega (arith, g (suc k) (omega arith)))
-ahead-plays h (suc zero ∷ b) f g = ahead-plays (suc h) b (λ k l. f (suc k) (omega arith)) (λ k l. omega (arith, g (suc k) (omega arith)))
+ahead-plays (suc h) (zero ∷ b) f g =
+    ahead-plays h b (λ k l. f (suc k) (omega arith)) (λ k l. omega (arith, g (suc k) (omega arith)))
+ahead-plays h (suc zero ∷ b) f g =
+    ahead-plays (suc h) b (λ k l. f (suc k) (omega arith)) (λ k l. omega (arith, g (suc k) (omega arith)))
 ahead-plays h (suc (suc x) ∷ b) f g = absurd (omega (arith, f 0 (omega arith)))
 
 module _ {t s : ℕ} {b : List ℕ} where

@@ -1,4 +1,5 @@
--- A list of all schedules of t, s, by their last beat: those of t−1, s with a 1 after them, then those of t, s−1 with a 0.
+-- A list of all schedules of t, s, by their last beat: those of t−1, s with a 1 after them, then
+-- those of t, s−1 with a 0.
 --     map-lists        a list of all that P holds of, mapped to all that Q holds of
 --     joined-lists     the two parts of the list together
 --     schedules t s    the list
@@ -16,7 +17,20 @@ use lib.ListN.{length, getD, length-append, length-map, List·getD-append}
 use lib.Seq.{getD-append-add}
 use Rattle.triangle.specs.Count.{N}
 use Rattle.schedule.specs.Schedule.{ones, zeros, Schedule, Lists}
-use Rattle.schedule.proofs.Hand.{schedule-plays, schedule-zeros, plays-schedule, Turned, start, down, up, level, turned, unturned, ones-turn, zeros-turn}
+use Rattle.schedule.proofs.Hand.{
+  schedule-plays,
+  schedule-zeros,
+  plays-schedule,
+  Turned,
+  start,
+  down,
+  up,
+  level,
+  turned,
+  unturned,
+  ones-turn,
+  zeros-turn,
+}
 
 pub map-at : (f : List ℕ → List ℕ) (l : List (List ℕ)) (i : ℕ) → i < length l → getD (map f l) i [] ≡ f (getD l i [])
 map-at f [] i h = absurd (omega arith)
@@ -57,11 +71,14 @@ joined a c = map (λ (r : List ℕ). 1 ∷ r) a ++ map (λ (r : List ℕ). 0 ∷
 
 module _ (a c : List (List ℕ)) where
   joined-length : length (joined a c) ≡ length a + length c
-  joined-length = length-append (map (λ (r : List ℕ). 1 ∷ r) a) (map (λ (r : List ℕ). 0 ∷ r) c) ∙ rw (length-map a (λ (r : List ℕ). 1 ∷ r), length-map c (λ (r : List ℕ). 0 ∷ r))
+  joined-length =
+      length-append (map (λ (r : List ℕ). 1 ∷ r) a) (map (λ (r : List ℕ). 0 ∷ r) c)
+      ∙ rw (length-map a (λ (r : List ℕ). 1 ∷ r), length-map c (λ (r : List ℕ). 0 ∷ r))
 
   joined-left : (i : ℕ) → i < length a → getD (joined a c) i [] ≡ 1 ∷ getD a i []
   joined-left i h =
-      List·getD-append (map (λ (r : List ℕ). 1 ∷ r) a) (map (λ (r : List ℕ). 0 ∷ r) c) [] i (rw (length-map a (λ (r : List ℕ). 1 ∷ r)) h)
+      List·getD-append (map (λ (r : List ℕ). 1 ∷ r) a) (map (λ (r : List ℕ). 0 ∷ r) c) [] i
+      (rw (length-map a (λ (r : List ℕ). 1 ∷ r)) h)
       ∙ map-at (λ (r : List ℕ). 1 ∷ r) a i h
 
   joined-right : (i j : ℕ) → i ≡ length a + j → j < length c → getD (joined a c) i [] ≡ 0 ∷ getD c j []
@@ -91,13 +108,20 @@ module _ (P Q : List ℕ → Type 0) (a c : List (List ℕ)) (p : Lists P a) (q 
 
       complete : (r : List ℕ) → Ends P Q r → (i : ℕ) × (i < length (joined a c)) × (getD (joined a c) i [] ≡ r)
       complete _ (in-one {r} x) =
-          let found = p .complete r x in
-          (found .0, omega (arith, joined-length a c, found .1), joined-left a c (found .0) (found .1) ∙ ap (λ (z : List ℕ). 1 ∷ z) (found .2))
+          let found = p .complete r x in (
+            found .0,
+            omega (arith, joined-length a c, found .1),
+            joined-left a c (found .0) (found .1) ∙ ap (λ (z : List ℕ). 1 ∷ z) (found .2),
+          )
       complete _ (in-zero {r} x) =
-          let found = q .complete r x in
-          (length a + found .0, omega (arith, joined-length a c, found .1), joined-right a c (length a + found .0) (found .0) refl (found .1) ∙ ap (λ (z : List ℕ). 0 ∷ z) (found .2))
+          let found = q .complete r x in (
+            length a + found .0,
+            omega (arith, joined-length a c, found .1),
+            joined-right a c (length a + found .0) (found .0) refl (found .1) ∙ ap (λ (z : List ℕ). 0 ∷ z) (found .2),
+          )
 
-      same : (i j : ℕ) → Side (length a) (length c) i → Side (length a) (length c) j → getD (joined a c) i [] ≡ getD (joined a c) j [] → i ≡ j
+      same : (i j : ℕ) → Side (length a) (length c) i → Side (length a) (length c) j
+          → getD (joined a c) i [] ≡ getD (joined a c) j [] → i ≡ j
       same i j (left h) (left k) e =
           let rest : getD a i [] ≡ getD a j [] = cc (joined-left a c i h, joined-left a c j k) in p .once i j h k rest
       same i j (left h) (right n f l) e =
@@ -108,7 +132,8 @@ module _ (P Q : List ℕ → Type 0) (a c : List (List ℕ)) (p : Lists P a) (q 
           let rest : getD c m [] ≡ getD c n [] = cc (joined-right a c i m f h, joined-right a c j n g l) in
           omega (arith, q .once m n h l rest)
 
-      once : (i j : ℕ) → i < length (joined a c) → j < length (joined a c) → getD (joined a c) i [] ≡ getD (joined a c) j [] → i ≡ j
+      once : (i j : ℕ) → i < length (joined a c) → j < length (joined a c)
+          → getD (joined a c) i [] ≡ getD (joined a c) j [] → i ≡ j
       once i j h k e = same i j (sides i h) (sides j k) e
 
 -- turned lists of t ones and s zeros
@@ -125,10 +150,19 @@ backward zero (suc s) = []
 backward (suc t) (suc s) = cond (leb (suc s) (suc t)) (joined (backward t (suc s)) (backward (suc t) s)) []
 
 nothing-lists : (P : List ℕ → Type 0) → ((r : List ℕ) → P r → ⊥) → Lists P []
-nothing-lists P f = record { sound = λ i h. absurd (omega arith); complete = λ r x. absurd (f r x); once = λ i j h k e. absurd (omega arith) }
+nothing-lists P f = record {
+  sound = λ i h. absurd (omega arith);
+  complete = λ r x. absurd (f r x);
+  once = λ i j h k e. absurd (omega arith);
+}
 
-renamed-lists : (P Q : List ℕ → Type 0) → ((r : List ℕ) → P r → Q r) → ((r : List ℕ) → Q r → P r) → (l : List (List ℕ)) → Lists P l → Lists Q l
-renamed-lists P Q f g l h = record { sound = λ i k. f (getD l i []) (h .sound i k); complete = λ r x. h .complete r (g r x); once = h .once }
+renamed-lists : (P Q : List ℕ → Type 0) → ((r : List ℕ) → P r → Q r) → ((r : List ℕ) → Q r → P r) → (l : List (List ℕ))
+    → Lists P l → Lists Q l
+renamed-lists P Q f g l h = record {
+  sound = λ i k. f (getD l i []) (h .sound i k);
+  complete = λ r x. h .complete r (g r x);
+  once = h .once;
+}
 
 empty-of : (r : List ℕ) → Of 0 0 r → r ≡ []
 unfolding ones zeros
@@ -149,7 +183,11 @@ module _ (t s : ℕ) where
   ends-of : s ≤ suc t → (r : List ℕ) → Ends (Of t s) (Shorter (suc t) s) r → Of (suc t) s r
   unfolding ones zeros
   ends-of k _ (in-one {r} o) = record { kept = up (o .kept); ups = omega (arith, o .ups); downs = o .downs }
-  ends-of k _ (in-zero {r} o) = record { kept = down {r = r} (omega (arith, o .ups, o .downs)) (o .kept); ups = o .ups; downs = o .downs }
+  ends-of k _ (in-zero {r} o) = record {
+    kept = down {r = r} (omega (arith, o .ups, o .downs)) (o .kept);
+    ups = o .ups;
+    downs = o .downs;
+  }
 
   of-ends : (r : List ℕ) → Of (suc t) s r → Ends (Of t s) (Shorter (suc t) s) r
   of-ends r o = by (o .kept) (o .ups) (o .downs)
@@ -159,30 +197,42 @@ module _ (t s : ℕ) where
       by (down h q) u d = in-zero (record { kept = q; ups = unfold ones in u; downs = unfold zeros in d })
       by (up q) u d = in-one (record { kept = q; ups = unfold ones in omega arith; downs = unfold zeros in d })
 
-  longer : s ≤ suc t → (a c : List (List ℕ)) → Lists (Of t s) a → Lists (Shorter (suc t) s) c → Lists (Of (suc t) s) (joined a c)
-  longer k a c p q = renamed-lists (Ends (Of t s) (Shorter (suc t) s)) (Of (suc t) s) (ends-of k) of-ends (joined a c) (joined-lists (Of t s) (Shorter (suc t) s) a c p q)
+  longer : s ≤ suc t → (a c : List (List ℕ)) → Lists (Of t s) a → Lists (Shorter (suc t) s) c
+      → Lists (Of (suc t) s) (joined a c)
+  longer k a c p q =
+      renamed-lists (Ends (Of t s) (Shorter (suc t) s)) (Of (suc t) s) (ends-of k) of-ends (joined a c)
+      (joined-lists (Of t s) (Shorter (suc t) s) a c p q)
 
   shorter : (c : List (List ℕ)) → Lists (Of t s) c → Lists (Shorter t (suc s)) c
   shorter c h =
-      renamed-lists (Of t s) (Shorter t (suc s)) (λ r o. record { kept = o .kept; ups = o .ups; downs = ap suc (o .downs) })
+      renamed-lists (Of t s) (Shorter t (suc s))
+      (λ r o. record { kept = o .kept; ups = o .ups; downs = ap suc (o .downs) })
       (λ r o. record { kept = o .kept; ups = o .ups; downs = omega (arith, o .downs) }) c h
 
 backward-lists : (t s : ℕ) → Lists (Of t s) (backward t s)
 unfolding backward
 backward-lists zero zero =
     record {
-      sound = λ i h. let e : i ≡ 0 = omega arith in rw e (record { kept = start; ups = unfold ones in refl; downs = unfold zeros in refl });
+      sound = λ i h.
+          let e : i ≡ 0 = omega arith in
+          rw e (record { kept = start; ups = unfold ones in refl; downs = unfold zeros in refl });
       complete = λ r o. (0, omega arith, sym (empty-of r o));
       once = λ i j h k e. omega arith;
     }
-backward-lists (suc t) zero = longer t 0 (omega arith) (backward t 0) [] (backward-lists t 0) (nothing-lists (Shorter (suc t) 0) (λ r o. omega (arith, o .downs)))
+backward-lists (suc t) zero =
+    longer t 0 (omega arith) (backward t 0) [] (backward-lists t 0)
+    (nothing-lists (Shorter (suc t) 0) (λ r o. omega (arith, o .downs)))
 backward-lists zero (suc s) = nothing-lists (Of 0 (suc s)) (λ r o. omega (arith, level (o .kept), o .ups, o .downs))
 backward-lists (suc t) (suc s) = by (decLe (suc s) (suc t)) (backward-lists t (suc s)) (backward-lists (suc t) s)
   where
     by : Dec (suc s ≤ suc t) → Lists (Of t (suc s)) (backward t (suc s)) → Lists (Of (suc t) s) (backward (suc t) s)
         → Lists (Of (suc t) (suc s)) (cond (leb (suc s) (suc t)) (joined (backward t (suc s)) (backward (suc t) s)) [])
-    by (yes k) p q = simp (le-leb (suc s) (suc t) k) (longer t (suc s) k (backward t (suc s)) (backward (suc t) s) p (shorter (suc t) s (backward (suc t) s) q))
-    by (no k) p q = simp (lt-leb (suc s) (suc t) (omega arith)) (nothing-lists (Of (suc t) (suc s)) (λ r o. omega (arith, level (o .kept), o .ups, o .downs)))
+    by (yes k) p q =
+        simp (le-leb (suc s) (suc t) k)
+        (longer t (suc s) k (backward t (suc s)) (backward (suc t) s) p (shorter (suc t) s (backward (suc t) s) q))
+    by (no k) p q =
+        simp (lt-leb (suc s) (suc t) (omega arith))
+        (nothing-lists (Of (suc t) (suc s)) (λ r o. omega (arith, level (o .kept), o .ups, o .downs)))
 
 backward-length : (t s : ℕ) → length (backward t s) ≡ N t s
 unfolding backward N
@@ -192,8 +242,10 @@ backward-length zero (suc s) = refl
 backward-length (suc t) (suc s) = by (decLe (suc s) (suc t)) (backward-length t (suc s)) (backward-length (suc t) s)
   where
     by : Dec (suc s ≤ suc t) → length (backward t (suc s)) ≡ N t (suc s) → length (backward (suc t) s) ≡ N (suc t) s
-        → length (cond (leb (suc s) (suc t)) (joined (backward t (suc s)) (backward (suc t) s)) []) ≡ cond (leb (suc s) (suc t)) (N t (suc s) + N (suc t) s) 0
-    by (yes k) p q = simp (le-leb (suc s) (suc t) k) (joined-length (backward t (suc s)) (backward (suc t) s) ∙ rw (p, q))
+        → length (cond (leb (suc s) (suc t)) (joined (backward t (suc s)) (backward (suc t) s)) [])
+        ≡ cond (leb (suc s) (suc t)) (N t (suc s) + N (suc t) s) 0
+    by (yes k) p q =
+        simp (le-leb (suc s) (suc t) k) (joined-length (backward t (suc s)) (backward (suc t) s) ∙ rw (p, q))
     by (no k) p q = simp (lt-leb (suc s) (suc t) (omega arith))
 
 pub schedules : ℕ → ℕ → List (List ℕ)
@@ -221,5 +273,6 @@ schedules-length t s = length-map (backward t s) reverse ∙ backward-length t s
 pub schedules-lists : (t s : ℕ) → Lists (Schedule t s) (schedules t s)
 unfolding schedules
 schedules-lists t s =
-    map-lists (Of t s) (Schedule t s) reverse (schedule-of t s) (λ b p. (reverse b, of-schedule t s b p, reverse-reverse b))
+    map-lists (Of t s) (Schedule t s) reverse (schedule-of t s)
+    (λ b p. (reverse b, of-schedule t s b p, reverse-reverse b))
     (λ r q e. sym (reverse-reverse r) ∙ ap reverse e ∙ reverse-reverse q) (backward t s) (backward-lists t s)

@@ -35,7 +35,10 @@ module _ (n m : ℕ) (f : ℕ → ℕ) (p : Into (suc n) (suc m) f) where
   not-last i h e = omega (arith, p .apart i n (omega arith) (omega arith) e)
 
   below-m : (i x : ℕ) → i < n → Kept f n m i x → x < m
-  below-m i x h (moved e q) = elim (ℕ-discrete (f n) m) [ yes last ↦ absurd (not-last i h (e ∙ sym last)) | no last ↦ omega (arith, p .below n (omega arith)) ]
+  below-m i x h (moved e q) = elim (ℕ-discrete (f n) m) [
+    | yes last ↦ absurd (not-last i h (e ∙ sym last))
+    | no last ↦ omega (arith, p .below n (omega arith))
+  ]
   below-m i x h (stayed e q) = omega (arith, p .below i (omega arith))
 
   apart-still : (i j x : ℕ) → i < n → j < n → Kept f n m i x → Kept f n m j x → i ≡ j
@@ -62,7 +65,8 @@ module _ (P : List ℕ → Type 0) (l m : List (List ℕ)) (p : Lists P l) (q : 
   place i (yes h) = q .complete (getD l i []) (p .sound i h) .0
   place i (no h) = 0
 
-  placed : (i : ℕ) (d : Dec (i < length l)) → i < length l → (place i d < length m) × (getD m (place i d) [] ≡ getD l i [])
+  placed : (i : ℕ) (d : Dec (i < length l)) → i < length l
+      → (place i d < length m) × (getD m (place i d) [] ≡ getD l i [])
   unfolding place
   placed i (yes h) k = let found = q .complete (getD l i []) (p .sound i h) in (found .1, found .2)
   placed i (no h) k = absurd (h k)
@@ -74,7 +78,9 @@ module _ (P : List ℕ → Type 0) (l m : List (List ℕ)) (p : Lists P l) (q : 
         below = λ i h. placed i (decLt i (length l)) h .0;
         apart = λ i j h k e.
             p .once i j h k
-            (sym (placed i (decLt i (length l)) h .1) ∙ ap (λ (x : ℕ). getD m x []) e ∙ placed j (decLt j (length l)) k .1);
+            (sym (placed i (decLt i (length l)) h .1)
+            ∙ ap (λ (x : ℕ). getD m x []) e
+            ∙ placed j (decLt j (length l)) k .1);
       })
 
 pub lists-length : (P : List ℕ → Type 0) (l m : List (List ℕ)) → Lists P l → Lists P m → length l ≡ length m

@@ -54,7 +54,10 @@ bad-decides : (b : List ℕ) (k : ℕ) → Bad b k ↔ (isBad b k ≡ true)
 bad-decides b k = (λ p. lt-ltb 1 (getD b k 0) p, λ e. ltb-true 1 (getD b k 0) e)
 
 bare-decides : (b : List ℕ) (k : ℕ) → Bare b k ↔ (isBare b k ≡ true)
-bare-decides b k = (λ p. iff .1 (eq-eqb (getD b k 0) 0 (p .0), le-leb (ones (take k b)) (zeros (take k b)) (p .1)), λ e. (eqb-true (getD b k 0) 0 (iff .0 e .0), leb-true (ones (take k b)) (zeros (take k b)) (iff .0 e .1)))
+bare-decides b k = (
+  λ p. iff .1 (eq-eqb (getD b k 0) 0 (p .0), le-leb (ones (take k b)) (zeros (take k b)) (p .1)),
+  λ e. (eqb-true (getD b k 0) 0 (iff .0 e .0), leb-true (ones (take k b)) (zeros (take k b)) (iff .0 e .1)),
+)
   where
     iff : (isBare b k ≡ true) ↔ ((eqb (getD b k 0) 0 ≡ true) × (leb (ones (take k b)) (zeros (take k b)) ≡ true))
     iff = and-eq-true-iff (eqb (getD b k 0) 0) (leb (ones (take k b)) (zeros (take k b)))
@@ -85,12 +88,14 @@ module _ (b : List ℕ) where
   no-bare-passed p = nowhere-computed (isBare b) (Bare b) (bare-decides b) (length b) p
 
   -- with no bare beat, each prefix has at least as many ones as zeros
-  ahead : Nowhere (Bad b) (length b) → Nowhere (Bare b) (length b) → (k : ℕ) → k ≤ length b → zeros (take k b) ≤ ones (take k b)
+  ahead : Nowhere (Bad b) (length b) → Nowhere (Bare b) (length b) → (k : ℕ) → k ≤ length b
+      → zeros (take k b) ≤ ones (take k b)
   unfolding ones zeros
   ahead bad bare zero l = omega arith
   ahead bad bare (suc k) l = by (getD b k 0) refl (ahead bad bare k (omega arith))
     where
-      by : (x : ℕ) → getD b k 0 ≡ x → zeros (take k b) ≤ ones (take k b) → zeros (take (suc k) b) ≤ ones (take (suc k) b)
+      by : (x : ℕ) → getD b k 0 ≡ x → zeros (take k b) ≤ ones (take k b)
+          → zeros (take (suc k) b) ≤ ones (take (suc k) b)
       by zero q before =
           elim (decLe (ones (take k b)) (zeros (take k b))) [
             | yes level ↦ absurd (bare k l (q, level))
@@ -101,7 +106,12 @@ module _ (b : List ℕ) where
 
   module _ (t s : ℕ) where
     pub passed-schedule : length b ≡ t + s → length b ≤ badBeat b → length b ≤ emptyHand b → ones b ≡ t → Schedule t s b
-    passed-schedule n f e o = record { beats = sound-beats b f; size = n; taken = o; ahead = ahead (passed-no-bad f) (passed-no-bare e) }
+    passed-schedule n f e o = record {
+      beats = sound-beats b f;
+      size = n;
+      taken = o;
+      ahead = ahead (passed-no-bad f) (passed-no-bare e);
+    }
 
     pub schedule-passed : Schedule t s b → (length b ≤ badBeat b) × (length b ≤ emptyHand b)
     schedule-passed p = (no-bad-passed (λ k l bad. omega (arith, p .beats k l)), no-bare-passed bare)

@@ -1,6 +1,7 @@
 -- One turn of each of the check's two loops, on plain values.
 --     Sound, sound-start, sound-turn, sound-end, sound-stop       all but the last `left` beats are 0 or 1
---     Playing, play-start, play-turn, play-end, play-stop         no beat before `at` sets down with nothing in hand, and `hand` is in hand there
+--     Playing, play-start, play-turn, play-end, play-stop         no beat before `at` sets down with nothing in hand,
+--                                                                 and `hand` is in hand there
 -- Assumes nothing.
 use mathlib.Core.Bool.{Bool, true, false, _&&_}
 use mathlib.Core.List.{List}
@@ -33,11 +34,15 @@ module _ (b : List ℕ) (left : ℕ) (s : Sound b left) where
     sound-turn e =
         record {
           inside = omega (arith, s .inside);
-          before = λ k h. below-more (λ (k : ℕ). isBad b k ≡ false) (length b - left) (s .before) (le-ltb 1 (getD b (length b - left) 0) e) k (omega (arith, s .inside));
+          before = λ k h.
+              below-more (λ (k : ℕ). isBad b k ≡ false) (length b - left) (s .before)
+              (le-ltb 1 (getD b (length b - left) 0) e) k (omega (arith, s .inside));
         }
 
     pub sound-stop : 1 < getD b (length b - left) 0 → length b - left ≡ badBeat b
-    sound-stop e = sym (first-is (isBad b) (length b) (length b - left) (omega (arith, s .inside)) (lt-ltb 1 (getD b (length b - left) 0) e) (s .before))
+    sound-stop e =
+        sym (first-is (isBad b) (length b) (length b - left) (omega (arith, s .inside))
+        (lt-ltb 1 (getD b (length b - left) 0) e) (s .before))
 
 pub record Playing (b : List ℕ) (at hand : ℕ) : Type 0 where
   pub inside : at ≤ length b
@@ -47,7 +52,12 @@ pub record Playing (b : List ℕ) (at hand : ℕ) : Type 0 where
 
 pub play-start : (b : List ℕ) → Playing b 0 0
 unfolding ones zeros
-play-start b = record { inside = omega arith; small = omega arith; level = omega arith; before = λ k h. absurd (omega arith) }
+play-start b = record {
+  inside = omega arith;
+  small = omega arith;
+  level = omega arith;
+  before = λ k h. absurd (omega arith);
+}
 
 module _ (b : List ℕ) (at hand : ℕ) (p : Playing b at hand) where
   bare-not : ((getD b at 0 ≡ 0) → zeros (take at b) < ones (take at b)) → isBare b at ≡ false
@@ -58,7 +68,8 @@ module _ (b : List ℕ) (at hand : ℕ) (p : Playing b at hand) where
       by false e = refl
 
   -- the next beat, up, is not a set-down with nothing in hand
-  pub play-turn : (up : ℕ) → up ≡ getD b at 0 → at < length b → up ≤ 1 → ((hand + up ≡ 0) → ⊥) → Playing b (at + 1) (hand + 2 * up - 1)
+  pub play-turn : (up : ℕ) → up ≡ getD b at 0 → at < length b → up ≤ 1 → ((hand + up ≡ 0) → ⊥)
+      → Playing b (at + 1) (hand + 2 * up - 1)
   play-turn zero e h l n =
       let down = prefix-down b at h (sym e) in
       record {
@@ -84,4 +95,7 @@ module _ (b : List ℕ) (at hand : ℕ) (p : Playing b at hand) where
   play-stop h e = sym (first-is (isBare b) (length b) at h bare (p .before))
     where
       bare : isBare b at ≡ true
-      bare = simp (eq-eqb (getD b at 0) 0 (omega arith), le-leb (ones (take at b)) (zeros (take at b)) (omega (arith, p .level)))
+      bare = simp (
+        eq-eqb (getD b at 0) 0 (omega arith),
+        le-leb (ones (take at b)) (zeros (take at b)) (omega (arith, p .level)),
+      )

@@ -36,17 +36,32 @@ module _ (b : List ℕ) (from v at : ℕ) (s : Skipping b from v at) where
       record {
         low = omega (arith, s .low);
         high = omega (arith, s .high, s .low);
-        run = λ k l m. elim (decLt k at) [ yes earlier ↦ s .run k l earlier | no here ↦ let same : k ≡ at = omega arith in ap (λ (i : ℕ). getD b i 0) same ∙ e ];
+        run = λ k l m. elim (decLt k at) [
+          | yes earlier ↦ s .run k l earlier
+          | no here ↦ let same : k ≡ at = omega arith in ap (λ (i : ℕ). getD b i 0) same ∙ e
+        ];
       }
 
   pub skip-end : length b ≤ at → at ≡ skipped b from v
   skip-end h =
-      found-unique (record { low = s .low; high = s .high; holds = λ l. absurd (omega (arith, s .low)); before = λ j l m. same-not b v j (s .run j l m) })
+      found-unique
+      (record {
+        low = s .low;
+        high = s .high;
+        holds = λ l. absurd (omega (arith, s .low));
+        before = λ j l m. same-not b v j (s .run j l m);
+      })
       (found (isOther b v) from (length b - from))
 
   pub skip-stop : getD b at 0 ≢ v → at ≡ skipped b from v
   skip-stop n =
-      found-unique (record { low = s .low; high = s .high; holds = λ l. other-is b v at n; before = λ j l m. same-not b v j (s .run j l m) })
+      found-unique
+      (record {
+        low = s .low;
+        high = s .high;
+        holds = λ l. other-is b v at n;
+        before = λ j l m. same-not b v j (s .run j l m);
+      })
       (found (isOther b v) from (length b - from))
 
 pub record Skips (b : List ℕ) (from v r : ℕ) : Type 0 where
@@ -62,12 +77,17 @@ skipped-skips {b} {from} {v} {r} h e =
       low = omega (arith, f .low, e);
       high = omega (arith, f .high, e);
       run = λ k l m. eqb-true (getD b k 0) v (not-false (eqb (getD b k 0) v) (f .before k l (omega (arith, e))));
-      stop = λ l same. eqb-false (getD b r 0) v (not-true (eqb (getD b r 0) v) (ap (isOther b v) e ∙ f .holds (omega (arith, e)))) same;
+      stop = λ l same.
+          eqb-false (getD b r 0) v (not-true (eqb (getD b r 0) v) (ap (isOther b v) e ∙ f .holds (omega (arith, e))))
+          same;
     }
 
 pub skips-unique : {b : List ℕ} {from v r m : ℕ} → Skips b from v r → Skips b from v m → r ≡ m
 skips-unique {b} {from} {v} {r} {m} p q =
     elim (decLt r m) [
       | yes h ↦ absurd (p .stop (omega (arith, q .high)) (q .run r (p .low) h))
-      | no h ↦ elim (decLt m r) [ yes k ↦ absurd (q .stop (omega (arith, p .high)) (p .run m (q .low) k)) | no k ↦ omega arith ]
+      | no h ↦ elim (decLt m r) [
+        | yes k ↦ absurd (q .stop (omega (arith, p .high)) (p .run m (q .low) k))
+        | no k ↦ omega arith
+      ]
     ]

@@ -32,14 +32,16 @@ tally (suc zero ∷ b) f = omega (arith, tally b (λ k h. f (suc k) (omega arith
 tally (suc (suc x) ∷ b) f = absurd (omega (arith, f 0 (omega arith)))
 
 module _ (b : List ℕ) (k : ℕ) (h : k < length b) where
-  pub prefix-up : getD b k 0 ≡ 1 → (ones (take (suc k) b) ≡ suc (ones (take k b))) × (zeros (take (suc k) b) ≡ zeros (take k b))
+  pub prefix-up : getD b k 0 ≡ 1
+      → (ones (take (suc k) b) ≡ suc (ones (take k b))) × (zeros (take (suc k) b) ≡ zeros (take k b))
   unfolding ones zeros
   prefix-up e = (
     rw (take-suc b k 0 h, e) (omega (arith, ones-append (take k b) (1 ∷ []))),
     rw (take-suc b k 0 h, e) (omega (arith, zeros-append (take k b) (1 ∷ []))),
   )
 
-  pub prefix-down : getD b k 0 ≡ 0 → (ones (take (suc k) b) ≡ ones (take k b)) × (zeros (take (suc k) b) ≡ suc (zeros (take k b)))
+  pub prefix-down : getD b k 0 ≡ 0
+      → (ones (take (suc k) b) ≡ ones (take k b)) × (zeros (take (suc k) b) ≡ suc (zeros (take k b)))
   unfolding ones zeros
   prefix-down e = (
     rw (take-suc b k 0 h, e) (omega (arith, ones-append (take k b) (0 ∷ []))),

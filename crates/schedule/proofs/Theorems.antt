@@ -1,9 +1,10 @@
 -- What the check's answer means, and that N counts, the manual, "A schedule", "How many forms" and "Refusal numbers".
 --     accepted-schedule, schedule-accepted     accepted exactly if the beats are a schedule of allowed counts [R4]
---     refused-refuses, refuses-refused         each refusal exactly when its row holds and none before it does; the place is the first such beat
---                                              [D1b] [R4] [R5]
+--     refused-refuses, refuses-refused         each refusal exactly when its row holds and none before it does; the
+--                                              place is the first such beat [D1b] [R4] [R5]
 --     isSchedule-true, true-isSchedule         the test of specs/Schedule.antt holds exactly of the schedules [A8]
---     N-schedules, lists-N                     some list has every schedule of t, s exactly once and is N(t, s) long, and so is every such list [D3a] [N1]
+--     N-schedules, lists-N                     some list has every schedule of t, s exactly once and is N(t, s) long,
+--                                              and so is every such list [D3a] [N1]
 -- Assumes nothing.
 use mathlib.Core.Bool.{Bool, true, _&&_, and-eq-true-iff}
 use mathlib.Core.List.{List}
@@ -43,11 +44,18 @@ module _ (t s : ℕ) (b : List ℕ) where
 module _ (t s : ℕ) (b : List ℕ) where
   -- the four parts of the test
   parts : (isSchedule t s b ≡ true)
-      ↔ ((every (λ k. leb (getD b k 0) 1) (length b) ≡ true) × (eqb (length b) (t + s) ≡ true) × (eqb (ones b) t ≡ true) × (every (λ k. leb (zeros (take k b)) (ones (take k b))) (suc (length b)) ≡ true))
+      ↔
+      ((every (λ k. leb (getD b k 0) 1) (length b) ≡ true) × (eqb (length b) (t + s) ≡ true) × (eqb (ones b) t ≡ true)
+      × (every (λ k. leb (zeros (take k b)) (ones (take k b))) (suc (length b)) ≡ true))
   unfolding isSchedule
   parts = (
-    λ e. let x = and-eq-true-iff (beats && size && taken) ahead .0 e in let y = and-eq-true-iff (beats && size) taken .0 (x .0) in let z = and-eq-true-iff beats size .0 (y .0) in (z .0, z .1, y .1, x .1),
-    λ p. and-eq-true-iff (beats && size && taken) ahead .1 (and-eq-true-iff (beats && size) taken .1 (and-eq-true-iff beats size .1 (p .0, p .1), p .2), p .3),
+    λ e.
+        let x = and-eq-true-iff (beats && size && taken) ahead .0 e in
+        let y = and-eq-true-iff (beats && size) taken .0 (x .0) in
+        let z = and-eq-true-iff beats size .0 (y .0) in
+        (z .0, z .1, y .1, x .1),
+    λ p. and-eq-true-iff (beats && size && taken) ahead .1
+        (and-eq-true-iff (beats && size) taken .1 (and-eq-true-iff beats size .1 (p .0, p .1), p .2), p .3),
   )
     where
       beats : Bool
@@ -69,7 +77,9 @@ module _ (t s : ℕ) (b : List ℕ) where
         beats = λ k l. leb-true (getD b k 0) 1 (every-at (λ k. leb (getD b k 0) 1) (length b) (p .0) k l);
         size = eqb-true (length b) (t + s) (p .1);
         taken = eqb-true (ones b) t (p .2);
-        ahead = λ k l. leb-true (zeros (take k b)) (ones (take k b)) (every-at (λ k. leb (zeros (take k b)) (ones (take k b))) (suc (length b)) (p .3) k (omega arith));
+        ahead = λ k l.
+            leb-true (zeros (take k b)) (ones (take k b))
+            (every-at (λ k. leb (zeros (take k b)) (ones (take k b))) (suc (length b)) (p .3) k (omega arith));
       }
 
   pub isSchedule-true : Schedule t s b → isSchedule t s b ≡ true
@@ -78,7 +88,8 @@ module _ (t s : ℕ) (b : List ℕ) where
         every-true (λ k. leb (getD b k 0) 1) (length b) (λ k l. le-leb (getD b k 0) 1 (p .beats k l)),
         eq-eqb (length b) (t + s) (p .size),
         eq-eqb (ones b) t (p .taken),
-        every-true (λ k. leb (zeros (take k b)) (ones (take k b))) (suc (length b)) (λ k l. le-leb (zeros (take k b)) (ones (take k b)) (p .ahead k (omega arith))),
+        every-true (λ k. leb (zeros (take k b)) (ones (take k b))) (suc (length b))
+            (λ k l. le-leb (zeros (take k b)) (ones (take k b)) (p .ahead k (omega arith))),
       )
 
 module _ (t s : ℕ) where

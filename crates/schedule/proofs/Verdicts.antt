@@ -20,7 +20,18 @@ use Rattle.schedule.specs.Schedule.{ones}
 use Rattle.schedule.specs.Check.{badBeat, emptyHand, beatRows, checked}
 use Rattle.schedule.specs.Meaning.{Refuses, for-tasks, for-downs, for-length, for-beat, for-hand, for-ups, Right}
 use Rattle.schedule.proofs.Rows.{wrong-length, bad-beat, empty-hand, wrong-take-ups, accepted}
-use Rattle.schedule.proofs.Reflect.{bad-first, first-bad, bare-first, first-bare, passed-no-bad, no-bad-passed, passed-no-bare, no-bare-passed, passed-schedule, schedule-passed}
+use Rattle.schedule.proofs.Reflect.{
+  bad-first,
+  first-bad,
+  bare-first,
+  first-bare,
+  passed-no-bad,
+  no-bad-passed,
+  passed-no-bare,
+  no-bare-passed,
+  passed-schedule,
+  schedule-passed,
+}
 
 module _ (t s : ℕ) (b : List ℕ) where
   by-counts : (why : Refusal) → judge (countRows t s) ≡ Verdict.Refused why → checked t s b ≡ Verdict.Refused why
@@ -38,7 +49,8 @@ module _ (t s : ℕ) (b : List ℕ) where
       by-beats a _ (bad-beat t s b n (omega (arith, p .inside))) ∙ ap (λ (k : ℕ). Verdict.Refused (BadBeat k)) e
   refused why (for-hand {at} a n f p) =
       let e = first-bare b at p in
-      by-beats a _ (empty-hand t s b n (no-bad-passed b f) (omega (arith, p .inside))) ∙ ap (λ (k : ℕ). Verdict.Refused (EmptyHand k)) e
+      by-beats a _ (empty-hand t s b n (no-bad-passed b f) (omega (arith, p .inside)))
+      ∙ ap (λ (k : ℕ). Verdict.Refused (EmptyHand k)) e
   refused why (for-ups a n f e o) = by-beats a _ (wrong-take-ups t s b n (no-bad-passed b f) (no-bare-passed b e) o)
 
   pub right-checked : (v : Verdict) → Right t s b v → checked t s b ≡ v
@@ -74,4 +86,6 @@ module _ (t s : ℕ) (b : List ℕ) where
   right-counts (no h) d = refuse (for-tasks (omega arith))
 
   pub checked-right : Right t s b (checked t s b)
-  checked-right = let r = right-counts (decLe t largest) (decLe s t) in subst (Right t s b) (sym (right-checked (r .0) (r .1))) (r .1)
+  checked-right =
+      let r = right-counts (decLe t largest) (decLe s t) in
+      subst (Right t s b) (sym (right-checked (r .0) (r .1))) (r .1)

@@ -30,7 +30,16 @@ use Rattle.record.specs.Record.{long, longest, layoutIn, upsAt, downsAt, bodyAt
 use Rattle.record.specs.Record.{packedRows, cut, kindRows, eaten}
 use Rattle.reader.proofs.Heads.{cut-above, cut-rest, whole-long}
 use Rattle.reader.proofs.Verdicts.{given}
-use Rattle.reader.proofs.Answering.{numbered-long, numbered-fits, beaten-long, beaten-fits, read-cut, read-tiny, read-unknown, read-kind}
+use Rattle.reader.proofs.Answering.{
+  numbered-long,
+  numbered-fits,
+  beaten-long,
+  beaten-fits,
+  read-cut,
+  read-tiny,
+  read-unknown,
+  read-kind,
+}
 use Rattle.reader.proofs.Meaning.{kind-reaches}
 use Rattle.reader.proofs.Parts.{read-facts}
 use Rattle.stream.specs.Stream.{verdictOn, passing, passed, ending, ends, settled}
@@ -46,8 +55,11 @@ kind-goes (Layout.Numbered at) src u e =
     given Goes (kindRows (Layout.Numbered at) src)
     ((λ l. refl, refl), ((λ l. refl, refl), ((λ l. refl, refl), ((λ l. refl, refl), tt)))) e
 kind-goes (Layout.Beaten at) src u e =
-    given Goes (kindRows (Layout.Beaten at) src)
-    ((λ l. refl, refl), ((λ l. refl, refl), ((λ l. refl, refl), ((λ l. refl, refl), ((λ l. refl, refl), ((λ l. refl, refl), tt)))))) e
+    given Goes (kindRows (Layout.Beaten at) src) (
+      (λ l. refl, refl),
+      ((λ l. refl, refl), ((λ l. refl, refl), ((λ l. refl, refl), ((λ l. refl, refl), ((λ l. refl, refl), tt))))),
+    )
+    e
 kind-goes Layout.Unknown src u e = absurd (true≢false u)
 
 module _ (src : List ℕ) where
@@ -56,7 +68,10 @@ module _ (src : List ℕ) where
 
   module _ (e : cut src ≡ false) where
     refused-goes : {why : Refusal} → verdictOn src ≡ Verdict.Refused why → Goes why
-    refused-goes {why} r = elim (decLt (long src) 2) [ yes l ↦ this (λ m. refl, refl) (read-tiny mostBeats src (omega arith) e l) | no l ↦ by (omega arith) (isUnknown (layoutIn src)) refl ]
+    refused-goes {why} r = elim (decLt (long src) 2) [
+      | yes l ↦ this (λ m. refl, refl) (read-tiny mostBeats src (omega arith) e l)
+      | no l ↦ by (omega arith) (isUnknown (layoutIn src)) refl
+    ]
       where
         this : {first : Refusal} → Goes first → verdictOn src ≡ Verdict.Refused first → Goes why
         this {first} goes q = let same : first ≡ why = cc in subst Goes same goes
@@ -70,7 +85,8 @@ module _ (src : List ℕ) where
       where
         by : (v : Verdict) → verdictOn src ≡ v → (ends src ≡ false) × (passed src ≡ 2 + long src)
         by Verdict.Accepted r = (ap ending r, ap (passing src) r)
-        by (Verdict.Refused why) r = (ap ending r ∙ refused-goes r .1, ap (passing src) r ∙ refused-goes r .0 (long src))
+        by (Verdict.Refused why) r =
+            (ap ending r ∙ refused-goes r .1, ap (passing src) r ∙ refused-goes r .0 (long src))
 
 -- a record, and what follows it
 module _ (src more : List ℕ) where
@@ -86,7 +102,8 @@ module _ (src more : List ℕ) where
   kind-same : 4 ≤ length src → layoutIn both ≡ layoutIn src
   kind-same h =
       ap (λ (l : List ℕ). layoutOf (valueOf (take 2 l))) (drop-append-le 2 src more (omega arith))
-      ∙ ap (λ (l : List ℕ). layoutOf (valueOf l)) (take-append-le 2 (drop 2 src) more (omega (arith, length-drop 2 src)))
+      ∙ ap (λ (l : List ℕ). layoutOf (valueOf l))
+      (take-append-le 2 (drop 2 src) more (omega (arith, length-drop 2 src)))
 
   -- counts at a byte that L reaches past
   module _ (at : ℕ) (inside : at ≤ long src) (whole : 2 + long src ≤ length src) where
@@ -119,8 +136,10 @@ module _ (src more : List ℕ) where
       | yes e ↦
           let inside : at ≤ long src = omega (arith, e) in
           numbered-fits at both (same-long ∙ e)
-          ∙ ap₂ (λ (t s : ℕ). judge (numberRows t s (valueOf (bodyAt at both)))) (ups-same at inside (whole .1)) (downs-same at inside (whole .1))
-          ∙ ap (λ (l : List ℕ). judge (numberRows (upsAt at src) (downsAt at src) (valueOf l))) (body-same at inside (whole .1))
+          ∙ ap₂ (λ (t s : ℕ). judge (numberRows t s (valueOf (bodyAt at both)))) (ups-same at inside (whole .1))
+          (downs-same at inside (whole .1))
+          ∙ ap (λ (l : List ℕ). judge (numberRows (upsAt at src) (downsAt at src) (valueOf l)))
+          (body-same at inside (whole .1))
           ∙ sym (numbered-fits at src e)
       | no n ↦ numbered-long at both (λ e. n (sym same-long ∙ e)) ∙ sym (numbered-long at src n)
     ]
@@ -131,7 +150,8 @@ module _ (src more : List ℕ) where
           let t = upsAt at src in
           let s = downsAt at src in
           beaten-fits at both (omega (arith, l, same-long))
-          ∙ ap₂ (λ (i j : ℕ). judge (countRows i j ++ packedRows i j (bodyAt at both))) (ups-same at inside (whole .1)) (downs-same at inside (whole .1))
+          ∙ ap₂ (λ (i j : ℕ). judge (countRows i j ++ packedRows i j (bodyAt at both))) (ups-same at inside (whole .1))
+          (downs-same at inside (whole .1))
           ∙ ap (λ (p : List ℕ). judge (countRows t s ++ packedRows t s p)) (body-same at inside (whole .1))
           ∙ sym (beaten-fits at src inside)
     ]
@@ -139,16 +159,20 @@ module _ (src more : List ℕ) where
 
     whole-alone : verdictOn both ≡ verdictOn src
     whole-alone = elim (decLt (long src) 2) [
-      | yes l ↦ read-tiny mostBeats both (omega arith) both-whole (omega (arith, l, same-long)) ∙ sym (read-tiny mostBeats src (omega arith) here l)
+      | yes l ↦
+          read-tiny mostBeats both (omega arith) both-whole (omega (arith, l, same-long))
+          ∙ sym (read-tiny mostBeats src (omega arith) here l)
       | no l ↦ by (omega arith) (isUnknown (layoutIn src)) refl
     ]
       where
         by : 2 ≤ long src → (b : Bool) → isUnknown (layoutIn src) ≡ b → verdictOn both ≡ verdictOn src
         by l true u =
-            read-unknown mostBeats both (omega arith) both-whole (omega (arith, same-long)) (ap isUnknown (kind-same (omega (arith, whole))) ∙ u)
+            read-unknown mostBeats both (omega arith) both-whole (omega (arith, same-long))
+            (ap isUnknown (kind-same (omega (arith, whole))) ∙ u)
             ∙ sym (read-unknown mostBeats src (omega arith) here l u)
         by l false u =
-            read-kind mostBeats both (omega arith) both-whole (omega (arith, same-long)) (ap isUnknown (kind-same (omega (arith, whole))) ∙ u)
+            read-kind mostBeats both (omega arith) both-whole (omega (arith, same-long))
+            (ap isUnknown (kind-same (omega (arith, whole))) ∙ u)
             ∙ ap (λ (k : Layout). judge (kindRows k both)) (kind-same (omega (arith, whole)))
             ∙ rows-alone (layoutIn src) u
             ∙ sym (read-kind mostBeats src (omega arith) here l u)
@@ -157,14 +181,16 @@ module _ (src more : List ℕ) where
     above-alone : longest < long src → verdictOn both ≡ verdictOn src
     above-alone h =
         let two = settled-whole src e .0 in
-        read-cut mostBeats both (omega arith) (sym (cut-above both (omega (arith, longer)) (omega (arith, h, long-same two))))
+        read-cut mostBeats both (omega arith)
+        (sym (cut-above both (omega (arith, longer)) (omega (arith, h, long-same two))))
         ∙ sym (read-cut mostBeats src (omega arith) (sym (cut-above src two h)))
 
     pub verdict-alone : verdictOn both ≡ verdictOn src
     verdict-alone = elim (decLt longest (long src)) [
       | yes h ↦ above-alone h
       | no h ↦ ⊎-elim above-alone
-          (λ w. whole-alone (sym (cut-rest src (settled-whole src e .0) (omega arith)) ∙ le-ltb (length src) (2 + long src) w))
+          (λ w. whole-alone
+          (sym (cut-rest src (settled-whole src e .0) (omega arith)) ∙ le-ltb (length src) (2 + long src) w))
           (settled-whole src e .1)
     ]
 

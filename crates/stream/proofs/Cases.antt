@@ -1,5 +1,6 @@
--- The definitions of specs/ on small inputs: what fits, and what is refused, a case for each part. The records are those of the manual and
--- their neighbours; 0 0 is the shortest record there is. `bell` prints one byte for every record. Assumes nothing.
+-- The definitions of specs/ on small inputs: what fits, and what is refused, a case for each part. The records are
+-- those of the manual and their neighbours; 0 0 is the shortest record there is. `bell` prints one byte for every
+-- record. Assumes nothing.
 use mathlib.Core.Bool.{Bool, true, false, true≢false, false≢true}
 use mathlib.Core.List.{List, [], _∷_}
 use mathlib.Core.Path.{_≡_, refl, ap}
@@ -14,7 +15,25 @@ use Rattle.stream.specs.declared.Front.{Front}
 use Rattle.stream.specs.declared.Pass.{Pass}
 use Rattle.stream.specs.declared.Stream.{Stream}
 use Rattle.stream.specs.Stream.{verdictOn, passed, ending, ends, listFrom, listOf, settled, frontOf, Own}
-use Rattle.stream.specs.Exchange.{between, window, begun, Inside, Room, Ready, Fed, came, finished, unread, Refilled, Onward, unwritten, over, again, fed, Exchanged}
+use Rattle.stream.specs.Exchange.{
+  between,
+  window,
+  begun,
+  Inside,
+  Room,
+  Ready,
+  Fed,
+  came,
+  finished,
+  unread,
+  Refilled,
+  Onward,
+  unwritten,
+  over,
+  again,
+  fed,
+  Exchanged,
+}
 use Rattle.stream.specs.Pass.{Prints, Lines, rests, last, more, Passes, Turns, joined, Listing}
 use Rattle.stream.specs.Pass as listing
 use Rattle.stream.proofs.Theorems.{lines-one, listing-list}
@@ -105,7 +124,8 @@ unsettled-start : settled (252 ∷ 3 ∷ []) ≡ false
 unfolding valueOf
 unsettled-start = refl
 
--- a byte waits for more while the input goes on, and is a cut record at its end; no byte waits too, and at the end the list is over
+-- a byte waits for more while the input goes on, and is a cut record at its end; no byte waits too, and at
+-- the end the list is over
 front-waits : frontOf false (0 ∷ []) ≡ Front.Short
 unfolding valueOf
 front-waits = refl
@@ -167,7 +187,12 @@ abbrev stopped : Front → Pass
 stopped front = record { consumed = 1; bytes = 2; front = front }
 
 ready-to-read : Ready (5 ∷ 6 ∷ 7 ∷ []) (8 ∷ 8 ∷ []) (standing 0 3) (stopped Front.Short)
-ready-to-read = record { inside = record { unread = omega arith; held = omega arith }; whole = omega arith; lines = omega arith; some = λ e. omega arith }
+ready-to-read = record {
+  inside = record { unread = omega arith; held = omega arith };
+  whole = omega arith;
+  lines = omega arith;
+  some = λ e. omega arith;
+}
 
 lines-past-the-text : Ready (5 ∷ 6 ∷ 7 ∷ []) (8 ∷ []) (standing 0 3) (stopped Front.Short) → ⊥
 lines-past-the-text p = omega (arith, p .lines)
@@ -218,7 +243,8 @@ at-the-end = over refl
 not-written : Onward (4 ∷ 5 ∷ []) false (stopped Front.Over) (5 ∷ []) false false 2
 not-written = unwritten
 
-over-only-at-the-end : {l : List ℕ} {e going : Bool} {answer : ℕ} {front : Front} → Onward (4 ∷ 5 ∷ []) false (stopped front) l e going answer
+over-only-at-the-end : {l : List ℕ} {e going : Bool} {answer : ℕ} {front : Front}
+    → Onward (4 ∷ 5 ∷ []) false (stopped front) l e going answer
     → going ≡ false → answer ≡ 0 → front ≡ Front.Over
 over-only-at-the-end unwritten g a = absurd (omega (arith, a))
 over-only-at-the-end (over e) g a = e
@@ -243,7 +269,8 @@ printed-whole : Prints bell (0 ∷ 0 ∷ []) (1 ∷ 2 ∷ []) (record { consumed
 unfolding valueOf
 printed-whole = record { record-size = refl; line-size = refl; ending = refl; written = refl }
 
-printed-nothing : Prints bell (0 ∷ 0 ∷ []) (1 ∷ 2 ∷ []) (record { consumed = 2; bytes = 0; last = false }) (1 ∷ 2 ∷ []) → ⊥
+printed-nothing : Prints bell (0 ∷ 0 ∷ []) (1 ∷ 2 ∷ []) (record { consumed = 2; bytes = 0; last = false }) (1 ∷ 2 ∷ [])
+    → ⊥
 printed-nothing p = omega (arith, p .line-size)
 
 printed-over-more : Prints bell (0 ∷ 0 ∷ []) (1 ∷ 2 ∷ []) (record { consumed = 2; bytes = 1; last = false }) (7 ∷ 7 ∷ []) → ⊥
@@ -300,7 +327,8 @@ turned = record {
 }
 
 -- more is only asked for where a record waits: no turn answers 1 at the end of an input
-answered-one : {src left : List ℕ} {e f going : Bool} {pass : Pass} {answer : ℕ} → Onward src e pass left f going answer → answer ≡ 1 → f ≡ false
+answered-one : {src left : List ℕ} {e f going : Bool} {pass : Pass} {answer : ℕ} → Onward src e pass left f going answer
+    → answer ≡ 1 → f ≡ false
 answered-one unwritten a = absurd (omega (arith, a))
 answered-one (over q) a = absurd (omega (arith, a))
 answered-one (again q) a = absurd (omega (arith, a))

@@ -31,13 +31,22 @@ module _ (src : List ℕ) where
     settled-rest k = sym (simp (le-leb 2 (length src) h, le-ltb longest (long src) k))
 
   pub settled-whole : settled src ≡ true → (2 ≤ length src) × ((longest < long src) ⊎ (2 + long src ≤ length src))
-  settled-whole e = (two, elim (decLt longest (long src)) [ yes h ↦ inl h | no h ↦ inr (leb-true (2 + long src) (length src) (settled-rest two (omega arith) ∙ e)) ])
+  settled-whole e = (
+    two,
+    elim (decLt longest (long src)) [
+      | yes h ↦ inl h
+      | no h ↦ inr (leb-true (2 + long src) (length src) (settled-rest two (omega arith) ∙ e))
+    ],
+  )
     where
       two : 2 ≤ length src
       two = elim (decLt (length src) 2) [ yes h ↦ absurd (false≢true (settled-none h ∙ e)) | no h ↦ omega arith ]
 
   pub unsettled-few : settled src ≡ false → length src < 2 + longest
-  unsettled-few e = elim (decLt (length src) (2 + longest)) [ yes h ↦ h | no h ↦ absurd (true≢false (enough (omega arith) ∙ e)) ]
+  unsettled-few e = elim (decLt (length src) (2 + longest)) [
+    | yes h ↦ h
+    | no h ↦ absurd (true≢false (enough (omega arith) ∙ e))
+  ]
     where
       enough : 2 + longest ≤ length src → true ≡ settled src
       enough h = elim (decLt longest (long src)) [
@@ -72,7 +81,8 @@ is-over false src e = by (settled src) e
 
 pub is-some : (src : List ℕ) → frontOf true src ≡ Front.Record → 0 < length src
 is-some src e = elim (ℕ-discrete (length src) 0) [
-  | yes n ↦ let clash : Front.Over ≡ Front.Record = ap (λ (b : Bool). cond b Front.Over Front.Record) (sym (eq-eqb (length src) 0 n)) ∙ e in
+  | yes n ↦ let clash : Front.Over ≡ Front.Record =
+      ap (λ (b : Bool). cond b Front.Over Front.Record) (sym (eq-eqb (length src) 0 n)) ∙ e in
       let z : _≡_ {A = ℕ} 0 1 = cc in absurd (omega arith)
   | no n ↦ omega (arith, n)
 ]

@@ -1,7 +1,7 @@
 -- The loop of a pass: records listed one after the other.
 --     tail, tail-is    the part of a list from an index on, as it is lent
---     Going            the records before `at` are listed, their lines stand before `put`, and what stood after them stands there; whatever
---                      the rest of the pass lists follows those lines
+--     Going            the records before `at` are listed, their lines stand before `put`, and what stood after them
+--                      stands there; whatever the rest of the pass lists follows those lines
 --     going-start      before the first record
 --     going-more       one record more
 --     going-fits       its line fits
@@ -33,7 +33,8 @@ module _ (line : List ℕ → List ℕ) (widest : ℕ) (ended : Bool) (src out :
     pub filled : put ≤ length out
     pub long : length now ≡ length out
     pub rest : drop put now ≡ drop put out
-    pub lines : {text left : List ℕ} {front : Front} → Lines line widest ended (length out - put) (drop at src) text left front
+    pub lines : {text left : List ℕ} {front : Front}
+        → Lines line widest ended (length out - put) (drop at src) text left front
         → Lines line widest ended (length out) src (take put now ++ text) left front
 
   pub going-start : Going 0 0 out
@@ -42,25 +43,33 @@ module _ (line : List ℕ → List ℕ) (widest : ℕ) (ended : Bool) (src out :
     filled = omega arith;
     long = refl;
     rest = refl;
-    lines = λ {text} {left} {front} q. let all : length out - 0 ≡ length out = omega arith in subst (λ (n : ℕ). Lines line widest ended n src text left front) all q;
+    lines = λ {text} {left} {front} q.
+        let all : length out - 0 ≡ length out = omega arith in
+        subst (λ (n : ℕ). Lines line widest ended n src text left front) all q;
   }
 
   pub going-rests : {at put : ℕ} {now : List ℕ} {front : Front} → Going at put now → frontOf ended (tail src at) ≡ front
-      → (front ≡ Front.Record → length out - put < widest) → Passes line widest ended src out (record { consumed = at; bytes = put; front = front }) now
+      → (front ≡ Front.Record → length out - put < widest)
+      → Passes line widest ended src out (record { consumed = at; bytes = put; front = front }) now
   going-rests {at} {put} {now} {front} g e i =
       let size : length (take put now) ≡ put = length-take-le put now (omega (arith, g .filled, g .long)) in
       record {
         text = take put now;
-        lines = subst (λ (l : List ℕ). Lines line widest ended (length out) src l (drop at src) front) (append-nil (take put now))
+        lines =
+            subst (λ (l : List ℕ). Lines line widest ended (length out) src l (drop at src) front)
+            (append-nil (take put now))
             (g .lines (rests (ap (frontOf ended) (sym (tail-is src at)) ∙ e) i));
         within = g .read;
         size = sym size;
-        written = sym (take-append-drop put now) ∙ ap (λ (l : List ℕ). take put now ++ l) (g .rest ∙ ap (λ (j : ℕ). drop j out) (sym size));
+        written =
+            sym (take-append-drop put now)
+            ∙ ap (λ (l : List ℕ). take put now ++ l) (g .rest ∙ ap (λ (j : ℕ). drop j out) (sym size));
       }
 
   -- a record was printed after the lines
   module _ {at put : ℕ} {now : List ℕ} (g : Going at put now) {printed : Printed} {part after : List ℕ}
-      (p : Prints line (tail src at) (tail now put) printed part) (a : after ≡ take put now ++ (part ++ drop (length now - put) (drop put now)))
+      (p : Prints line (tail src at) (tail now put) printed part)
+      (a : after ≡ take put now ++ (part ++ drop (length now - put) (drop put now)))
       (same : length after ≡ length now) where
     abbrev this : List ℕ
     this = line (drop at src)
@@ -74,14 +83,17 @@ module _ (line : List ℕ → List ℕ) (widest : ℕ) (ended : Bool) (src out :
     laid : after ≡ lined ++ drop (put + length this) now
     laid =
         a
-        ∙ ap (λ (l : List ℕ). take put now ++ (part ++ l)) (drop-of-length-le (drop put now) {i = length now - put} (omega (arith, length-drop put now)))
+        ∙ ap (λ (l : List ℕ). take put now ++ (part ++ l))
+        (drop-of-length-le (drop put now) {i = length now - put} (omega (arith, length-drop put now)))
         ∙ ap (λ (l : List ℕ). take put now ++ l) (append-nil part ∙ p .written
         ∙ ap₂ (λ (l m : List ℕ). line l ++ drop (length (line l)) m) (tail-is src at) (tail-is now put)
         ∙ ap (λ (l : List ℕ). this ++ l) (drop-drop (length this) put now))
         ∙ sym (append-assoc (take put now) this (drop (put + length this) now))
 
     lined-size : length lined ≡ put + length this
-    lined-size = length-append (take put now) this ∙ ap (λ (n : ℕ). n + length this) (length-take-le put now (omega (arith, g .filled, g .long)))
+    lined-size =
+        length-append (take put now) this
+        ∙ ap (λ (n : ℕ). n + length this) (length-take-le put now (omega (arith, g .filled, g .long)))
 
     fits : put + length this ≤ length out
     fits = omega (arith, lined-size, g .long, same, ap length laid, length-append lined (drop (put + length this) now))
@@ -90,7 +102,8 @@ module _ (line : List ℕ → List ℕ) (widest : ℕ) (ended : Bool) (src out :
     going-fits = omega (arith, fits, bytes-is)
 
     front-lines : take (put + length this) after ≡ lined
-    front-lines = ap (take (put + length this)) laid ∙ take-at lined (drop (put + length this) now) (put + length this) lined-size
+    front-lines =
+        ap (take (put + length this)) laid ∙ take-at lined (drop (put + length this) now) (put + length this) lined-size
 
     behind-lines : drop (put + length this) after ≡ drop (put + length this) out
     behind-lines =
@@ -104,7 +117,9 @@ module _ (line : List ℕ → List ℕ) (widest : ℕ) (ended : Bool) (src out :
       ends-is : printed .last ≡ ends (drop at src)
       ends-is = p .ending ∙ ap ends (tail-is src at)
 
-      pub going-last : printed .last ≡ true → Passes line widest ended src out (record { consumed = at; bytes = put + printed .bytes; front = Front.Over }) after
+      pub going-last : printed .last ≡ true
+          → Passes line widest ended src out
+          (record { consumed = at; bytes = put + printed .bytes; front = Front.Over }) after
       going-last f =
           record {
             text = lined;
@@ -112,7 +127,8 @@ module _ (line : List ℕ → List ℕ) (widest : ℕ) (ended : Bool) (src out :
             within = g .read;
             size = ap (λ (n : ℕ). put + n) bytes-is ∙ sym lined-size;
             written = sym (take-append-drop (put + length this) after)
-                ∙ ap₂ (λ (l m : List ℕ). l ++ m) front-lines (behind-lines ∙ ap (λ (j : ℕ). drop j out) (sym lined-size));
+                ∙ ap₂ (λ (l m : List ℕ). l ++ m) front-lines
+                (behind-lines ∙ ap (λ (j : ℕ). drop j out) (sym lined-size));
           }
 
       pub going-more : printed .last ≡ false → Going (at + printed .consumed) (put + printed .bytes) after
@@ -133,10 +149,19 @@ module _ (line : List ℕ → List ℕ) (widest : ℕ) (ended : Bool) (src out :
                 subst (λ (l : List ℕ). Lines line widest ended (length out) src l left front)
                 (sym (append-assoc (take put now) this text) ∙ ap (λ (l : List ℕ). l ++ text) (sym front-lines))
                 (g .lines (more at-record w (sym ends-is ∙ f)
-                (subst (λ (n : ℕ). Lines line widest ended n (drop (passed (drop at src)) (drop at src)) text left front) room
-                (subst (λ (l : List ℕ). Lines line widest ended (length out - (put + length this)) l text left front) (sym (drop-drop (passed (drop at src)) at src)) q))));
+                (subst
+                (λ (n : ℕ). Lines line widest ended n (drop (passed (drop at src)) (drop at src)) text left front) room
+                (subst (λ (l : List ℕ). Lines line widest ended (length out - (put + length this)) l text left front)
+                (sym (drop-drop (passed (drop at src)) at src)) q))));
           }
 
       -- the next turn of the loop has fewer bytes before it
       pub going-less : printed .last ≡ false → length src - (at + printed .consumed) < length src - at
-      going-less f = omega (arith, g .read, p .record-size ∙ ap passed (tail-is src at), passed-some (drop at src) (sym ends-is ∙ f), passed-within (drop at src), length-drop at src)
+      going-less f = omega (
+        arith,
+        g .read,
+        p .record-size ∙ ap passed (tail-is src at),
+        passed-some (drop at src) (sym ends-is ∙ f),
+        passed-within (drop at src),
+        length-drop at src,
+      )

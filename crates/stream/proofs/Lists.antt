@@ -53,7 +53,8 @@ module _ (line : List ℕ → List ℕ) where
       let src = x ∷ rest in
       let shorter = length-drop (passed src) src in
       ap (λ (l : List ℕ). line src ++ l) (behind (ends src) (λ e.
-      enough k m (drop (passed src) src) (omega (arith, shorter, passed-some src e)) (omega (arith, shorter, passed-some src e))))
+      enough k m (drop (passed src) src) (omega (arith, shorter, passed-some src e))
+      (omega (arith, shorter, passed-some src e))))
 
   pub list-none : listOf line [] ≡ []
   unfolding listFrom
@@ -67,11 +68,16 @@ module _ (line : List ℕ → List ℕ) where
       let src = x ∷ rest in
       let left = drop (passed src) src in
       ap (λ (l : List ℕ). line src ++ l) (behind (ends src) (λ e.
-      enough (length rest) (length left) left (omega (arith, length-drop (passed src) src, passed-some src e)) (omega arith)))
+      enough (length rest) (length left) left (omega (arith, length-drop (passed src) src, passed-some src e))
+      (omega arith)))
 
   pub list-last : (src : List ℕ) → 0 < length src → ends src ≡ true → listOf line src ≡ line src
   list-last src h e =
-      list-front src h ∙ ap (λ (b : Bool). line src ++ cond b [] (listOf line (drop (passed src) src))) e ∙ append-nil (line src)
+      list-front src h
+      ∙ ap (λ (b : Bool). line src ++ cond b [] (listOf line (drop (passed src) src))) e
+      ∙ append-nil (line src)
 
-  pub list-more : (src : List ℕ) → 0 < length src → ends src ≡ false → listOf line src ≡ line src ++ listOf line (drop (passed src) src)
-  list-more src h e = list-front src h ∙ ap (λ (b : Bool). line src ++ cond b [] (listOf line (drop (passed src) src))) e
+  pub list-more : (src : List ℕ) → 0 < length src → ends src ≡ false
+      → listOf line src ≡ line src ++ listOf line (drop (passed src) src)
+  list-more src h e =
+      list-front src h ∙ ap (λ (b : Bool). line src ++ cond b [] (listOf line (drop (passed src) src))) e

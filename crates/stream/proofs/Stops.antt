@@ -15,7 +15,19 @@ use Rattle.record.specs.Record.{longest}
 use Rattle.stream.specs.declared.Front.{Front}
 use Rattle.stream.specs.declared.Pass.{Pass}
 use Rattle.stream.specs.declared.Stream.{Stream}
-use Rattle.stream.specs.Exchange.{window, Inside, Ready, came, finished, unread, Onward, unwritten, over, again, fed}
+use Rattle.stream.specs.Exchange.{
+  window,
+  Inside,
+  Ready,
+  came,
+  finished,
+  unread,
+  Onward,
+  unwritten,
+  over,
+  again,
+  fed,
+}
 use Rattle.stream.specs.Pass.{Lines, rests, last, more, Passes}
 use Rattle.stream.proofs.Fronts.{unsettled-few, is-open}
 
@@ -32,19 +44,23 @@ module _ {line : List ℕ → List ℕ} {widest : ℕ} where
   lines-few (last e i j) f = let z : _≡_ {A = ℕ} 0 1 = cc in absurd (omega arith)
   lines-few (more e i j q) f = lines-few q f
 
-  pub ready : {input text after : List ℕ} {stream : Stream} {pass : Pass} → Inside input stream → 2 + longest ≤ length input
+  pub ready : {input text after : List ℕ} {stream : Stream} {pass : Pass} → Inside input stream
+      → 2 + longest ≤ length input
       → Passes line widest (stream .ended) (window input stream) text pass after → Ready input after stream pass
   ready {input} {text} {after} {stream} {pass} inside large p =
       let size : length (window input stream) ≡ stream .have - stream .at =
-      length-take-le (stream .have - stream .at) (drop (stream .at) input) (omega (arith, inside .held, length-drop (stream .at) input)) in
+      length-take-le (stream .have - stream .at) (drop (stream .at) input)
+      (omega (arith, inside .held, length-drop (stream .at) input)) in
       record {
         inside = inside;
         whole = omega (arith, p .within, size, inside .unread);
         lines = omega (arith, p .size, ap length (p .written), length-append (p .text) (drop (length (p .text)) text));
-        some = λ e. omega (arith, large, lines-few (p .lines) e, length-drop (pass .consumed) (window input stream), size);
+        some = λ e.
+            omega (arith, large, lines-few (p .lines) e, length-drop (pass .consumed) (window input stream), size);
       }
 
-pub onward-answer : {src left : List ℕ} {e f going : Bool} {pass : Pass} {answer : ℕ} → Onward src e pass left f going answer → answer ≤ 2
+pub onward-answer : {src left : List ℕ} {e f going : Bool} {pass : Pass} {answer : ℕ}
+    → Onward src e pass left f going answer → answer ≤ 2
 onward-answer unwritten = omega arith
 onward-answer (over e) = omega arith
 onward-answer (again e) = omega arith

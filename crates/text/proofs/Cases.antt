@@ -1,4 +1,5 @@
--- The definitions of specs/ on small inputs, by computing them; for each part of Spells and Written a text that is refused for it. Assumes nothing.
+-- The definitions of specs/ on small inputs, by computing them; for each part of Spells and Written a text that is
+-- refused for it. Assumes nothing.
 use mathlib.Core.List.{List, [], _∷_}
 use mathlib.Core.Path.{_≡_, refl, ap}
 use Prim.Native.Nat.{ℕ}

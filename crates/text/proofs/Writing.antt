@@ -1,8 +1,10 @@
 -- Pieces of text are written one after the other, on plain values.
 --     written-put                   one byte is written
 --     written-then                  a piece and then the piece after it are the two together
---     Spelling                      the decimal of n is to stand from at to end; all digits but those of rest are written
---     spelling-none, spelling-more, spelling-all     no digit is written; one more; the first one, which is written last
+--     Spelling                      the decimal of n is to stand from at to end; all digits but
+--                                   those of rest are written
+--     spelling-none, spelling-more, spelling-all     no digit is written; one more; the first
+--                                                    one, which is written last
 --     spelling-some                 before a digit that is not the first stands another
 --     field-fits                    a number and a space take at most 21 bytes
 -- Assumes nothing.

@@ -1,5 +1,5 @@
--- The definitions of specs/ on small inputs: for each part of them one that fits and one that does not. The example marked P is in the
--- crate `demands`. Assumes nothing.
+-- The definitions of specs/ on small inputs: for each part of them one that fits and one that does not. The example
+-- marked P is in the crate `demands`. Assumes nothing.
 use mathlib.Core.Bool.{true, false}
 use mathlib.Core.List.{List, [], _∷_}
 use mathlib.Core.Path.{_≡_, refl, ap}
@@ -29,7 +29,8 @@ pub one : Has 1 (1 ∷ 0 ∷ []) (0 ∷ []) (0 ∷ []) (0 ∷ [])
 unfolding size word root lefts rights parents
 one = record { tree = node leaf leaf; nodes = refl; beats = refl; left = refl; right = refl; parent = refl }
 
--- [E10] its root has no other parent: tables 0 / 0 / 1 are no schedule's. The tree has one node, which is its own word's only 1
+-- [E10] its root has no other parent: tables 0 / 0 / 1 are no schedule's. The tree has one node, which
+-- is its own word's only 1
 pub other-parent : (b : List ℕ) → Has 1 b (0 ∷ []) (0 ∷ []) (1 ∷ []) → ⊥
 other-parent b q = by (q .tree) (q .parent)
   where
@@ -40,11 +41,25 @@ other-parent b q = by (q .tree) (q .parent)
 -- two nodes: the second is the left child in 1100, and the right one in 1010
 left-child : Has 2 (1 ∷ 1 ∷ 0 ∷ 0 ∷ []) (2 ∷ 0 ∷ []) (0 ∷ 0 ∷ []) (0 ∷ 1 ∷ [])
 unfolding size word root lefts rights parents
-left-child = record { tree = node (node leaf leaf) leaf; nodes = refl; beats = refl; left = refl; right = refl; parent = refl }
+left-child = record {
+  tree = node (node leaf leaf) leaf;
+  nodes = refl;
+  beats = refl;
+  left = refl;
+  right = refl;
+  parent = refl;
+}
 
 right-child : Has 2 (1 ∷ 0 ∷ 1 ∷ 0 ∷ []) (0 ∷ 0 ∷ []) (2 ∷ 0 ∷ []) (0 ∷ 1 ∷ [])
 unfolding size word root lefts rights parents
-right-child = record { tree = node leaf (node leaf leaf); nodes = refl; beats = refl; left = refl; right = refl; parent = refl }
+right-child = record {
+  tree = node leaf (node leaf leaf);
+  nodes = refl;
+  beats = refl;
+  left = refl;
+  right = refl;
+  parent = refl;
+}
 
 -- 1100 has no other left children and no other right ones
 other-left : Has 2 (1 ∷ 1 ∷ 0 ∷ 0 ∷ []) (0 ∷ 0 ∷ []) (0 ∷ 0 ∷ []) (0 ∷ 1 ∷ []) → ⊥

@@ -37,7 +37,14 @@ pub forest-count : (ts : List Tree) → length ts + ones (words ts) ≡ zeros (w
 unfolding words ones zeros
 forest-count [] = omega arith
 forest-count (t ∷ ts) =
-    omega (arith, ones-append (word t) (words ts), zeros-append (word t) (words ts), ones-word t, zeros-word t, forest-count ts)
+    omega (
+      arith,
+      ones-append (word t) (words ts),
+      zeros-append (word t) (words ts),
+      ones-word t,
+      zeros-word t,
+      forest-count ts,
+    )
 
 pub forest-ones : (ts : List Tree) → ones (words ts) ≡ sizes ts
 unfolding words sizes ones
@@ -68,7 +75,8 @@ module _ (k : ℕ) (a b : Tree) (ts : List Tree) where
 
   pub right-node : each rights k (node a b ∷ ts) ≡ root (suc k + size a) b ∷ each rights (suc k) (a ∷ (b ∷ ts))
   unfolding each rights
-  right-node = ap (λ (w : List ℕ). root (suc k + size a) b ∷ w) (join rights (rights (suc k) a) (rights (suc k + size a) b))
+  right-node =
+      ap (λ (w : List ℕ). root (suc k + size a) b ∷ w) (join rights (rights (suc k) a) (rights (suc k + size a) b))
 
   pub parent-node : each (parents 0) k (node a b ∷ ts)
       ≡ 0 ∷ (parents k (suc k) a ++ (parents k (suc k + size a) b ++ each (parents 0) (suc k + size a + size b) ts))
@@ -90,16 +98,31 @@ pub length-parents : (q k : ℕ) (t : Tree) → length (parents q k t) ≡ size 
 unfolding parents size
 length-parents q k leaf = refl
 length-parents q k (node a b) =
-    omega (arith, length-append (parents k (suc k) a) (parents k (suc k + size a) b), length-parents k (suc k) a, length-parents k (suc k + size a) b)
+    omega (
+      arith,
+      length-append (parents k (suc k) a) (parents k (suc k + size a) b),
+      length-parents k (suc k) a,
+      length-parents k (suc k + size a) b,
+    )
 
 pub length-lefts : (k : ℕ) (t : Tree) → length (lefts k t) ≡ size t
 unfolding lefts size
 length-lefts k leaf = refl
 length-lefts k (node a b) =
-    omega (arith, length-append (lefts (suc k) a) (lefts (suc k + size a) b), length-lefts (suc k) a, length-lefts (suc k + size a) b)
+    omega (
+      arith,
+      length-append (lefts (suc k) a) (lefts (suc k + size a) b),
+      length-lefts (suc k) a,
+      length-lefts (suc k + size a) b,
+    )
 
 pub length-rights : (k : ℕ) (t : Tree) → length (rights k t) ≡ size t
 unfolding rights size
 length-rights k leaf = refl
 length-rights k (node a b) =
-    omega (arith, length-append (rights (suc k) a) (rights (suc k + size a) b), length-rights (suc k) a, length-rights (suc k + size a) b)
+    omega (
+      arith,
+      length-append (rights (suc k) a) (rights (suc k + size a) b),
+      length-rights (suc k) a,
+      length-rights (suc k + size a) b,
+    )

@@ -1,6 +1,6 @@
 -- The loop that makes a schedule's tables, from its last beat to its first.
---     Planted           the beats from `at` on are words of trees; their roots are on the stack, and the tables hold their links from
---                       node k + 1 on, the roots' parents being 0
+--     Planted           the beats from `at` on are words of trees; their roots are on the stack, and the tables hold
+--                       their links from node k + 1 on, the roots' parents being 0
 --     planted-start     before the first turn: one leaf, the one that a schedule leaves out
 --     planted-down      a 0 puts a leaf in front
 --     planted-up        a 1 makes one tree of the first two
@@ -20,7 +20,21 @@ use Rattle.schedule.proofs.Copied.{stored}
 use Rattle.tree.specs.Tree.{Tree, leaf, node, size, word, root, lefts, rights, parents}
 use Rattle.tree.specs.Planting.{adopted}
 use Rattle.tree.specs.Table.{Has}
-use Rattle.tree.proofs.Forest.{each, rootList, words, sizes, forest-count, forest-ones, each-leaf, root-node, left-node, right-node, parent-node, adopt-at, length-parents}
+use Rattle.tree.proofs.Forest.{
+  each,
+  rootList,
+  words,
+  sizes,
+  forest-count,
+  forest-ones,
+  each-leaf,
+  root-node,
+  left-node,
+  right-node,
+  parent-node,
+  adopt-at,
+  length-parents,
+}
 
 -- the top of a stack
 pub pop : (st : List ℕ) (d : ℕ) → d < length st → reverse (take (suc d) st) ≡ getD st d 0 ∷ reverse (take d st)
@@ -114,7 +128,8 @@ module _ {b : List ℕ} {n at k d : ℕ} {st l r p : List ℕ} (q : Schedule n n
         nodes = omega (arith, u .nodes);
         room = omega (arith, u .room, length-set st d 0);
         deep = ap suc (u .deep);
-        stack = push st d 0 down-room ∙ ap (λ (c : List ℕ). 0 ∷ c) (u .stack ∙ sym (each-leaf (suc k) (u .trees) rootList));
+        stack =
+            push st d 0 down-room ∙ ap (λ (c : List ℕ). 0 ∷ c) (u .stack ∙ sym (each-leaf (suc k) (u .trees) rootList));
         long-l = u .long-l;
         long-r = u .long-r;
         long-p = u .long-p;
@@ -128,7 +143,8 @@ module _ {b : List ℕ} {n at k d : ℕ} {st l r p : List ℕ} (q : Schedule n n
       one-here = here ∙ ap (λ (x : ℕ). x ∷ drop at b) o
 
       -- before the 1 nothing was set down too many
-      up-counts : (ones (take before b) + 1 + ones (drop at b) ≡ n) × (zeros (take before b) + zeros (drop at b) ≡ n) × (zeros (take before b) ≤ ones (take before b))
+      up-counts : (ones (take before b) + 1 + ones (drop at b) ≡ n) × (zeros (take before b) + zeros (drop at b) ≡ n)
+          × (zeros (take before b) ≤ ones (take before b))
       unfolding ones zeros
       up-counts = (
         omega (arith, ones-cut b before, ap ones one-here, q .taken),
@@ -137,17 +153,21 @@ module _ {b : List ℕ} {n at k d : ℕ} {st l r p : List ℕ} (q : Schedule n n
       )
 
       pub up-room : (1 ≤ k) × (2 ≤ d) × (d ≤ length st)
-      up-room = (omega (arith, left-over, up-counts), omega (arith, many, up-counts), omega (arith, many, up-counts, u .room))
+      up-room =
+          (omega (arith, left-over, up-counts), omega (arith, many, up-counts), omega (arith, many, up-counts, u .room))
 
 -- the three stores into the parents make the first two trees children of the node in front of them
-adopted-two : (p : List ℕ) (k : ℕ) (a c : Tree) (ts : List Tree) → k < length p → drop (suc k) p ≡ each (parents 0) (suc (suc k)) (a ∷ (c ∷ ts))
+adopted-two : (p : List ℕ) (k : ℕ) (a c : Tree) (ts : List Tree) → k < length p
+    → drop (suc k) p ≡ each (parents 0) (suc (suc k)) (a ∷ (c ∷ ts))
     → drop k (adopted (root (suc (suc k) + size a) c) (suc k) (adopted (root (suc (suc k)) a) (suc k) (set p k 0)))
     ≡ each (parents 0) (suc k) (node a c ∷ ts)
 unfolding each
 adopted-two p k a c ts h e =
     ap (λ (w : List ℕ). drop k (adopted (root m c) v (adopted (root (suc v) a) v w))) start
-    ∙ ap (λ (w : List ℕ). drop k (adopted (root m c) v w)) (adopt-at a 0 v (suc v) (front ++ 0 ∷ []) (parents 0 m c ++ rest) first)
-    ∙ ap (λ (w : List ℕ). drop k (adopted (root m c) v w)) (sym (append-assoc (front ++ 0 ∷ []) (parents v (suc v) a) (parents 0 m c ++ rest)))
+    ∙ ap (λ (w : List ℕ). drop k (adopted (root m c) v w))
+    (adopt-at a 0 v (suc v) (front ++ 0 ∷ []) (parents 0 m c ++ rest) first)
+    ∙ ap (λ (w : List ℕ). drop k (adopted (root m c) v w))
+    (sym (append-assoc (front ++ 0 ∷ []) (parents v (suc v) a) (parents 0 m c ++ rest)))
     ∙ ap (drop k) (adopt-at c 0 v m ((front ++ 0 ∷ []) ++ parents v (suc v) a) rest second)
     ∙ ap (drop k) (append-assoc (front ++ 0 ∷ []) (parents v (suc v) a) (parents v m c ++ rest))
     ∙ ap (drop k) (append-assoc front (0 ∷ []) (parents v (suc v) a ++ (parents v m c ++ rest)))
@@ -169,14 +189,27 @@ adopted-two p k a c ts h e =
     long : length (take k p) ≡ k
     long = length-take-le k p (omega arith)
 
-    start : set p k 0 ≡ (take k p ++ 0 ∷ []) ++ (parents 0 (suc (suc k)) a ++ (parents 0 (suc (suc k) + size a) c ++ each (parents 0) (suc (suc k) + size a + size c) ts))
-    start = set-split p k 0 h ∙ ap (λ (w : List ℕ). take k p ++ 0 ∷ w) e ∙ sym (append-assoc (take k p) (0 ∷ []) (parents 0 (suc (suc k)) a ++ (parents 0 (suc (suc k) + size a) c ++ each (parents 0) (suc (suc k) + size a + size c) ts)))
+    start : set p k 0
+        ≡ (take k p ++ 0 ∷ [])
+        ++ (parents 0 (suc (suc k)) a
+        ++ (parents 0 (suc (suc k) + size a) c ++ each (parents 0) (suc (suc k) + size a + size c) ts))
+    start =
+        set-split p k 0 h
+        ∙ ap (λ (w : List ℕ). take k p ++ 0 ∷ w) e
+        ∙ sym (append-assoc (take k p) (0 ∷ [])
+        (parents 0 (suc (suc k)) a
+        ++ (parents 0 (suc (suc k) + size a) c ++ each (parents 0) (suc (suc k) + size a + size c) ts)))
 
     first : suc (suc k) ≡ suc (length (take k p ++ 0 ∷ []))
     first = omega (arith, length-append (take k p) (0 ∷ []), long)
 
     second : suc (suc k) + size a ≡ suc (length ((take k p ++ 0 ∷ []) ++ parents (suc k) (suc (suc k)) a))
-    second = omega (arith, length-append (take k p ++ 0 ∷ []) (parents (suc k) (suc (suc k)) a), length-parents (suc k) (suc (suc k)) a, first)
+    second = omega (
+      arith,
+      length-append (take k p ++ 0 ∷ []) (parents (suc k) (suc (suc k)) a),
+      length-parents (suc k) (suc (suc k)) a,
+      first,
+    )
 
 -- the two roots on top of the stack
 front-two : (x y z w : ℕ) (u v : List ℕ) → x ∷ (y ∷ u) ≡ z ∷ (w ∷ v) → (x ≡ z) × (y ≡ w) × (u ≡ v)
@@ -184,10 +217,12 @@ front-two x y z w u v e = (cc, cc, cc)
 
 two-roots : (st : List ℕ) (e k : ℕ) (a c : Tree) (ts : List Tree) → suc e < length st
     → reverse (take (suc (suc e)) st) ≡ each rootList k (a ∷ (c ∷ ts))
-    → (getD st (suc e) 0 ≡ root k a) × (getD st e 0 ≡ root (k + size a) c) × (reverse (take e st) ≡ each rootList (k + size a + size c) ts)
+    → (getD st (suc e) 0 ≡ root k a) × (getD st e 0 ≡ root (k + size a) c)
+    × (reverse (take e st) ≡ each rootList (k + size a + size c) ts)
 unfolding each
 two-roots st e k a c ts h s =
-    front-two _ _ _ _ _ _ (sym (pop st (suc e) h ∙ ap (λ (w : List ℕ). getD st (suc e) 0 ∷ w) (pop st e (omega arith))) ∙ s)
+    front-two _ _ _ _ _ _
+    (sym (pop st (suc e) h ∙ ap (λ (w : List ℕ). getD st (suc e) 0 ∷ w) (pop st e (omega arith))) ∙ s)
 
 module _ {b : List ℕ} {n at before k e : ℕ} {st l r p : List ℕ} (u : Planted b n at (suc k) (suc (suc e)) st l r p)
     (w : at ≡ suc before) (o : drop before b ≡ 1 ∷ drop at b) (h : suc e < length st) where
@@ -197,28 +232,40 @@ module _ {b : List ℕ} {n at before k e : ℕ} {st l r p : List ℕ} (u : Plant
   abbrev y : ℕ
   y = getD st e 0
 
-  node-of : (ts : List Tree) → u .trees ≡ ts → Planted b n before k (suc e) (set st e (suc k)) (set l k x) (set r k y) (adopted y (suc k) (adopted x (suc k) (set p k 0)))
+  node-of : (ts : List Tree) → u .trees ≡ ts
+      → Planted b n before k (suc e) (set st e (suc k)) (set l k x) (set r k y)
+      (adopted y (suc k) (adopted x (suc k) (set p k 0)))
   unfolding words word
   node-of [] same = absurd (omega (arith, u .deep, ap length same))
   node-of (a ∷ []) same = absurd (omega (arith, u .deep, ap length same))
   node-of (a ∷ (c ∷ ts)) same = record {
     trees = node a c ∷ ts;
     within = omega (arith, u .within);
-    behind = ap (λ (v : List ℕ). 1 ∷ v) (append-assoc (word a) (word c) (words ts) ∙ words-so) ∙ ap (λ (v : List ℕ). v ++ 0 ∷ []) (sym o);
+    behind =
+        ap (λ (v : List ℕ). 1 ∷ v) (append-assoc (word a) (word c) (words ts) ∙ words-so)
+        ∙ ap (λ (v : List ℕ). v ++ 0 ∷ []) (sym o);
     nodes = nodes-so;
     room = omega (arith, u .room, length-set st e (suc k));
     deep = omega (arith, u .deep, ap length same);
-    stack = push st e (suc k) (omega arith) ∙ ap (λ (v : List ℕ). suc k ∷ v) (roots .2) ∙ sym (root-node (suc k) a c ts);
+    stack =
+        push st e (suc k) (omega arith) ∙ ap (λ (v : List ℕ). suc k ∷ v) (roots .2) ∙ sym (root-node (suc k) a c ts);
     long-l = length-set l k x ∙ u .long-l;
     long-r = length-set r k y ∙ u .long-r;
     long-p = long-so;
-    left = stored l k x in-l ∙ ap₂ (λ (i : ℕ) (v : List ℕ). i ∷ v) (roots .0) (u .left ∙ ap (each lefts (suc (suc k))) same) ∙ sym (left-node (suc k) a c ts);
-    right = stored r k y in-r ∙ ap₂ (λ (i : ℕ) (v : List ℕ). i ∷ v) (roots .1) (u .right ∙ ap (each rights (suc (suc k))) same) ∙ sym (right-node (suc k) a c ts);
+    left =
+        stored l k x in-l
+        ∙ ap₂ (λ (i : ℕ) (v : List ℕ). i ∷ v) (roots .0) (u .left ∙ ap (each lefts (suc (suc k))) same)
+        ∙ sym (left-node (suc k) a c ts);
+    right =
+        stored r k y in-r
+        ∙ ap₂ (λ (i : ℕ) (v : List ℕ). i ∷ v) (roots .1) (u .right ∙ ap (each rights (suc (suc k))) same)
+        ∙ sym (right-node (suc k) a c ts);
     parent = ap₂ (λ (i j : ℕ). drop k (adopted i (suc k) (adopted j (suc k) (set p k 0)))) (roots .1) (roots .0)
         ∙ adopted-two p k a c ts in-p (u .parent ∙ ap (each (parents 0) (suc (suc k))) same);
   }
     where
-      roots : (getD st (suc e) 0 ≡ root (suc (suc k)) a) × (getD st e 0 ≡ root (suc (suc k) + size a) c) × (reverse (take e st) ≡ each rootList (suc (suc k) + size a + size c) ts)
+      roots : (getD st (suc e) 0 ≡ root (suc (suc k)) a) × (getD st e 0 ≡ root (suc (suc k) + size a) c)
+          × (reverse (take e st) ≡ each rootList (suc (suc k) + size a + size c) ts)
       roots = two-roots st e (suc (suc k)) a c ts h (u .stack ∙ ap (each rootList (suc (suc k))) same)
 
       words-so : word a ++ (word c ++ words ts) ≡ drop at b ++ 0 ∷ []
@@ -237,9 +284,14 @@ module _ {b : List ℕ} {n at before k e : ℕ} {st l r p : List ℕ} (u : Plant
       in-p = omega (arith, u .long-p, u .nodes)
 
       long-so : length (adopted (getD st e 0) (suc k) (adopted (getD st (suc e) 0) (suc k) (set p k 0))) ≡ n
-      long-so = length-adopted (getD st e 0) (suc k) (adopted (getD st (suc e) 0) (suc k) (set p k 0)) ∙ length-adopted (getD st (suc e) 0) (suc k) (set p k 0) ∙ length-set p k 0 ∙ u .long-p
+      long-so =
+          length-adopted (getD st e 0) (suc k) (adopted (getD st (suc e) 0) (suc k) (set p k 0))
+          ∙ length-adopted (getD st (suc e) 0) (suc k) (set p k 0)
+          ∙ length-set p k 0
+          ∙ u .long-p
 
-  planted-node : Planted b n before k (suc e) (set st e (suc k)) (set l k x) (set r k y) (adopted y (suc k) (adopted x (suc k) (set p k 0)))
+  planted-node : Planted b n before k (suc e) (set st e (suc k)) (set l k x) (set r k y)
+      (adopted y (suc k) (adopted x (suc k) (set p k 0)))
   planted-node = node-of (u .trees) refl
 
 pub planted-up : {b : List ℕ} {n at m d : ℕ} {st l r p : List ℕ} → Schedule n n b → Planted b n at m d st l r p
@@ -260,7 +312,8 @@ root-le k leaf = omega arith
 root-le k (node a b) = omega arith
 
 -- the roots are nodes of the tables, or leaves
-pub planted-roots : {b : List ℕ} {n at k d : ℕ} {st l r p : List ℕ} → Planted b n at k d st l r p → (e : ℕ) → d ≡ e + 2 → d ≤ length st
+pub planted-roots : {b : List ℕ} {n at k d : ℕ} {st l r p : List ℕ} → Planted b n at k d st l r p → (e : ℕ) → d ≡ e + 2
+    → d ≤ length st
     → (getD st (e + 1) 0 ≤ n) × (getD st e 0 ≤ n)
 planted-roots {b} {n} {at} {k} {d} {st} {l} {r} {p} u e f h = go (u .trees) refl
   where
@@ -271,12 +324,17 @@ planted-roots {b} {n} {at} {k} {d} {st} {l} {r} {p} u e f h = go (u .trees) refl
     go [] same = absurd (omega (arith, u .deep, ap length same))
     go (a ∷ []) same = absurd (omega (arith, u .deep, ap length same))
     go (a ∷ (c ∷ ts)) same =
-        let roots = two-roots st e (suc k) a c ts (omega arith) (ap (λ (j : ℕ). reverse (take j st)) (sym deep) ∙ u .stack ∙ ap (each rootList (suc k)) same) in
+        let roots =
+        two-roots st e (suc k) a c ts (omega arith)
+        (ap (λ (j : ℕ). reverse (take j st)) (sym deep) ∙ u .stack ∙ ap (each rootList (suc k)) same) in
         let all : k + sizes (a ∷ (c ∷ ts)) ≡ n = ap (λ (w : List Tree). k + sizes w) (sym same) ∙ u .nodes in
         (rw (add-one e) (bounds all .0 (roots .0)), bounds all .1 (roots .1))
       where
-        bounds : k + sizes (a ∷ (c ∷ ts)) ≡ n → (getD st (suc e) 0 ≡ root (suc k) a → getD st (suc e) 0 ≤ n) × (getD st e 0 ≡ root (suc k + size a) c → getD st e 0 ≤ n)
-        bounds all = unfold sizes in (λ x. omega (arith, root-le k a), λ x. omega (arith, root-le (k + size a) c, further))
+        bounds : k + sizes (a ∷ (c ∷ ts)) ≡ n
+            → (getD st (suc e) 0 ≡ root (suc k) a → getD st (suc e) 0 ≤ n)
+            × (getD st e 0 ≡ root (suc k + size a) c → getD st e 0 ≤ n)
+        bounds all = unfold sizes in
+            (λ x. omega (arith, root-le k a), λ x. omega (arith, root-le (k + size a) c, further))
           where
             further : root (suc k + size a) c ≡ root (suc (k + size a)) c
             further = let i : suc k + size a ≡ suc (k + size a) = omega arith in ap (λ (j : ℕ). root j c) i
@@ -299,7 +357,8 @@ planted-whole b n d st l r p q u = go (u .trees) refl
     }
     go (t ∷ (s ∷ ts)) same = absurd (omega (arith, one, ap length same))
 
-pub planted-all : {b : List ℕ} {n at k d : ℕ} {st l r p : List ℕ} → Schedule n n b → Planted b n at k d st l r p → at ≡ 0 → Has n b l r p
+pub planted-all : {b : List ℕ} {n at k d : ℕ} {st l r p : List ℕ} → Schedule n n b → Planted b n at k d st l r p
+    → at ≡ 0 → Has n b l r p
 planted-all {b} {n} {at} {k} {d} {st} {l} {r} {p} q u z =
     let first : Planted b n 0 k d st l r p = subst (λ (i : ℕ). Planted b n i k d st l r p) z u in
     let none : k ≡ 0 = omega (arith, left-over q first, q .taken) in

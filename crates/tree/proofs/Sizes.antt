@@ -1,5 +1,7 @@
--- The verdicts by size, and those of a schedule and the tables lent for it, row by row, the manual, "Refusal numbers" (Order: trees).
---     fits-beats, fits-left, fits-right, fits-parent     whether the lengths are those of n nodes, tested in their order
+-- The verdicts by size, and those of a schedule and the tables lent for it, row by row, the manual, "Refusal
+-- numbers" (Order: trees).
+--     fits-beats, fits-left, fits-right, fits-parent     whether the lengths are those of n
+--                                                        nodes, tested in their order
 --     too-many, wrong-sizes, right-sizes     the verdict by size: 1, then 3
 --     sizes-right, fitting-sizes    what accepted sizes say, and that such sizes are accepted
 --     tree-unfit, tree-checked      the verdict on a schedule and its tables: that by size, and then the check's
@@ -46,29 +48,44 @@ module _ (n beats left right parent : ℕ) where
   too-many h = simp (lt-ltb largest n h)
 
   module _ (h : n ≤ largest) where
-    pub wrong-sizes : fits n beats left right parent ≡ false → judge (sizeRows n beats left right parent) ≡ Verdict.Refused WrongLength
-    wrong-sizes f = ap (λ (b : Bool). judge ((b ⇒ TooManyTasks) ∷ (not (fits n beats left right parent) ⇒ WrongLength) ∷ [])) (le-ltb largest n h)
+    pub wrong-sizes : fits n beats left right parent ≡ false
+        → judge (sizeRows n beats left right parent) ≡ Verdict.Refused WrongLength
+    wrong-sizes f =
+        ap (λ (b : Bool). judge ((b ⇒ TooManyTasks) ∷ (not (fits n beats left right parent) ⇒ WrongLength) ∷ []))
+        (le-ltb largest n h)
         ∙ ap (λ (b : Bool). judge ((not b ⇒ WrongLength) ∷ [])) f
 
-    pub right-sizes : fits n beats left right parent ≡ true → judge (sizeRows n beats left right parent) ≡ Verdict.Accepted
-    right-sizes f = ap (λ (b : Bool). judge ((b ⇒ TooManyTasks) ∷ (not (fits n beats left right parent) ⇒ WrongLength) ∷ [])) (le-ltb largest n h)
+    pub right-sizes : fits n beats left right parent ≡ true
+        → judge (sizeRows n beats left right parent) ≡ Verdict.Accepted
+    right-sizes f =
+        ap (λ (b : Bool). judge ((b ⇒ TooManyTasks) ∷ (not (fits n beats left right parent) ⇒ WrongLength) ∷ []))
+        (le-ltb largest n h)
         ∙ ap (λ (b : Bool). judge ((not b ⇒ WrongLength) ∷ [])) f
 
   pub sizes-right : judge (sizeRows n beats left right parent) ≡ Verdict.Accepted
       → (n ≤ largest) × (beats ≡ n + n) × (left ≡ n) × (right ≡ n) × (parent ≡ n)
   sizes-right e =
       let few = accepted-none (sizeRows n beats left right parent) e _ (List·Memᴰ·head refl) in
-      let fit = not-false (fits n beats left right parent) (accepted-none (sizeRows n beats left right parent) e _ (List·Memᴰ·tail (List·Memᴰ·head refl))) in
+      let fit =
+      not-false (fits n beats left right parent)
+      (accepted-none (sizeRows n beats left right parent) e _ (List·Memᴰ·tail (List·Memᴰ·head refl))) in
       let x = and-eq-true-iff (eqb beats (n + n) && eqb left n && eqb right n) (eqb parent n) .0 fit in
       let y = and-eq-true-iff (eqb beats (n + n) && eqb left n) (eqb right n) .0 (x .0) in
-      let z = and-eq-true-iff (eqb beats (n + n)) (eqb left n) .0 (y .0) in
-      (ltb-false largest n few, eqb-true beats (n + n) (z .0), eqb-true left n (z .1), eqb-true right n (y .1), eqb-true parent n (x .1))
+      let z = and-eq-true-iff (eqb beats (n + n)) (eqb left n) .0 (y .0) in (
+        ltb-false largest n few,
+        eqb-true beats (n + n) (z .0),
+        eqb-true left n (z .1),
+        eqb-true right n (y .1),
+        eqb-true parent n (x .1),
+      )
 
-  pub fitting-sizes : (n ≤ largest) × (beats ≡ n + n) × (left ≡ n) × (right ≡ n) × (parent ≡ n) → judge (sizeRows n beats left right parent) ≡ Verdict.Accepted
+  pub fitting-sizes : (n ≤ largest) × (beats ≡ n + n) × (left ≡ n) × (right ≡ n) × (parent ≡ n)
+      → judge (sizeRows n beats left right parent) ≡ Verdict.Accepted
   fitting-sizes q = right-sizes (q .0) (sym (fits-parent (q .1) (q .2) (q .3)) ∙ eq-eqb parent n (q .4))
 
 module _ (n : ℕ) (b l r p : List ℕ) where
-  pub tree-unfit : {why : Refusal} → judge (lentRows n b l r p) ≡ Verdict.Refused why → judge (treeRows n b l r p) ≡ Verdict.Refused why
+  pub tree-unfit : {why : Refusal} → judge (lentRows n b l r p) ≡ Verdict.Refused why
+      → judge (treeRows n b l r p) ≡ Verdict.Refused why
   tree-unfit {why} e = judge-refused (lentRows n b l r p) (playRows n b) why e
 
   pub tree-checked : judge (lentRows n b l r p) ≡ Verdict.Accepted → judge (treeRows n b l r p) ≡ checked n n b
@@ -77,7 +94,8 @@ module _ (n : ℕ) (b l r p : List ℕ) where
       let few = allowed-counts n n (q .0, omega arith) in
       let long = eq-eqb (length b) (n + n) (q .1) in
       judge-accepted (lentRows n b l r p) (playRows n b) e
-      ∙ sym (judge-accepted (countRows n n) (beatRows n n b) few ∙ ap (λ (x : Bool). judge ((not x ⇒ WrongLength) ∷ playRows n b)) long)
+      ∙ sym (judge-accepted (countRows n n) (beatRows n n b) few
+      ∙ ap (λ (x : Bool). judge ((not x ⇒ WrongLength) ∷ playRows n b)) long)
 
   -- a schedule and its tables that are taken: the tables are n long and the schedule is closed
   pub taken-closed : judge (lentRows n b l r p) ≡ Verdict.Accepted → checked n n b ≡ Verdict.Accepted

@@ -4,8 +4,8 @@
 --     has-closed, closed-has    what has tables is a closed schedule, and every closed schedule has tables
 --     one-tables                a schedule has one triple of tables
 --     treed-one                 no second answer and no second content of what is lent fits the contract [P11]
---     tree-accepts, accepts-tree     the way there accepts exactly the closed schedules of n ≤ 32 with room for their tables
---                                    [T4]
+--     tree-accepts, accepts-tree     the way there accepts exactly the closed schedules of n ≤ 32 with
+--                                    room for their tables [T4]
 -- Assumes nothing.
 use mathlib.Core.List.{List, [], _∷_, _++_}
 use mathlib.Core.Path.{_≡_, refl, sym, _∙_, ap, subst}
@@ -22,7 +22,16 @@ use Rattle.schedule.proofs.Theorems.{accepted-schedule, schedule-accepted}
 use Rattle.tree.specs.Tree.{Tree, size, word, lefts, rights, parents}
 use Rattle.tree.specs.Table.{Has, lentRows, treeRows, Treed, filled, kept}
 use Rattle.schedule.proofs.Tally.{ones-append}
-use Rattle.tree.proofs.Word.{ones-word, word-front, front, front-schedule, front-unique, treeOf, word-tree, one-tree}
+use Rattle.tree.proofs.Word.{
+  ones-word,
+  word-front,
+  front,
+  front-schedule,
+  front-unique,
+  treeOf,
+  word-tree,
+  one-tree,
+}
 use Rattle.tree.proofs.Sizes.{sizes-right, fitting-sizes, tree-checked}
 
 -- a tree whose word is b with one leaf more has as many nodes as b has ones
@@ -37,7 +46,8 @@ closed-tree {n} {b} q =
     (treeOf b, size-ones (treeOf b) b e ∙ q .taken, e, λ s f. sym (one-tree s b f))
 
 pub tree-closed : (t : Tree)
-    → (b : List ℕ) × Schedule (size t) (size t) b × (b ++ 0 ∷ [] ≡ word t) × ((c : List ℕ) → c ++ 0 ∷ [] ≡ word t → c ≡ b)
+    → (b : List ℕ) × Schedule (size t) (size t) b × (b ++ 0 ∷ [] ≡ word t)
+    × ((c : List ℕ) → c ++ 0 ∷ [] ≡ word t → c ≡ b)
 tree-closed t = (front t, front-schedule t, sym (word-front t), λ c e. front-unique c (front t) (e ∙ word-front t))
 
 pub has-closed : {n : ℕ} {b l r p : List ℕ} → Has n b l r p → Schedule n n b
@@ -80,8 +90,12 @@ module _ (n : ℕ) (b l r p : List ℕ) where
 
   pub tree-accepts : judge (treeRows n b l r p) ≡ Verdict.Accepted → Sized × Schedule n n b
   tree-accepts e =
-      let fit = judge-front (lentRows n b l r p) (playRows n b) e in
-      (sizes-right n (length b) (length l) (length r) (length p) fit, accepted-schedule n n b (sym (tree-checked n b l r p fit) ∙ e) .1)
+      let fit = judge-front (lentRows n b l r p) (playRows n b) e in (
+        sizes-right n (length b) (length l) (length r) (length p) fit,
+        accepted-schedule n n b (sym (tree-checked n b l r p fit) ∙ e) .1,
+      )
 
   pub accepts-tree : Sized → Schedule n n b → judge (treeRows n b l r p) ≡ Verdict.Accepted
-  accepts-tree s q = tree-checked n b l r p (fitting-sizes n (length b) (length l) (length r) (length p) s) ∙ schedule-accepted n n b (s .0, omega arith) q
+  accepts-tree s q =
+      tree-checked n b l r p (fitting-sizes n (length b) (length l) (length r) (length p) s)
+      ∙ schedule-accepted n n b (s .0, omega arith) q

@@ -33,7 +33,9 @@ front (node a b) = 1 ∷ (word a ++ front b)
 pub word-front : (t : Tree) → word t ≡ front t ++ 0 ∷ []
 unfolding word front
 word-front leaf = refl
-word-front (node a b) = ap (λ (w : List ℕ). 1 ∷ w) (ap (λ (w : List ℕ). word a ++ w) (word-front b) ∙ sym (append-assoc (word a) (front b) (0 ∷ [])))
+word-front (node a b) =
+    ap (λ (w : List ℕ). 1 ∷ w)
+    (ap (λ (w : List ℕ). word a ++ w) (word-front b) ∙ sym (append-assoc (word a) (front b) (0 ∷ [])))
 
 -- a word sets down one task more than it takes up; without its final leaf it sets down what it takes up
 word-plays : (t : Tree) (h : ℕ) (c : List ℕ) → plays (suc h) (word t ++ c) ≡ plays h c
@@ -78,7 +80,8 @@ first (t ∷ ts) = t
 pub treeOf : List ℕ → Tree
 treeOf b = first (parse (b ++ 0 ∷ []))
 
-grown : (ts : List Tree) (h : ℕ) (c : List ℕ) → words ts ≡ c → length ts ≡ suc (suc h) → (words (grow ts) ≡ 1 ∷ c) × (length (grow ts) ≡ suc h)
+grown : (ts : List Tree) (h : ℕ) (c : List ℕ) → words ts ≡ c → length ts ≡ suc (suc h)
+    → (words (grow ts) ≡ 1 ∷ c) × (length (grow ts) ≡ suc h)
 unfolding grow words word
 grown [] h c e n = absurd (omega arith)
 grown (a ∷ []) h c e n = absurd (omega arith)
@@ -91,12 +94,16 @@ unfolding plays ones zeros parse words word
 parsed h [] o e = (refl, omega arith)
 parsed zero (zero ∷ b) o e = absurd (false≢true o)
 parsed (suc h) (zero ∷ b) o e = let i = parsed h b o (omega arith) in (ap (λ (w : List ℕ). 0 ∷ w) (i .0), ap suc (i .1))
-parsed h (suc zero ∷ b) o e = let i = parsed (suc h) b o (omega arith) in grown (parse (b ++ 0 ∷ [])) h (b ++ 0 ∷ []) (i .0) (i .1)
+parsed h (suc zero ∷ b) o e =
+    let i = parsed (suc h) b o (omega arith) in
+    grown (parse (b ++ 0 ∷ [])) h (b ++ 0 ∷ []) (i .0) (i .1)
 parsed h (suc (suc x) ∷ b) o e = absurd (false≢true o)
 
 pub word-tree : {n : ℕ} {b : List ℕ} → Schedule n n b → b ++ 0 ∷ [] ≡ word (treeOf b)
 unfolding treeOf first words
-word-tree {n} {b} q = let i = parsed 0 b (schedule-plays q) (omega (arith, q .taken, schedule-zeros q)) in go (parse (b ++ 0 ∷ [])) (i .0) (i .1)
+word-tree {n} {b} q =
+    let i = parsed 0 b (schedule-plays q) (omega (arith, q .taken, schedule-zeros q)) in
+    go (parse (b ++ 0 ∷ [])) (i .0) (i .1)
   where
     go : (ts : List Tree) → words ts ≡ b ++ 0 ∷ [] → length ts ≡ 1 → b ++ 0 ∷ [] ≡ word (first ts)
     go [] w k = absurd (omega arith)

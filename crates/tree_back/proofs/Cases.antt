@@ -1,5 +1,5 @@
--- The definitions of specs/ on small inputs: for each part of them one that fits and one that does not. The tables are those of the
--- examples of the crate `tree`. Assumes nothing.
+-- The definitions of specs/ on small inputs: for each part of them one that fits and one that does not. The tables are
+-- those of the examples of the crate `tree`. Assumes nothing.
 use mathlib.Core.Bool.{true, false}
 use mathlib.Core.List.{List, [], _∷_}
 use mathlib.Core.Path.{_≡_, refl, ap}

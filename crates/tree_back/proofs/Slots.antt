@@ -1,6 +1,7 @@
 -- Tables read from a node on.
---     Reads own k c t     the tables, read at a slot that holds c and belongs to node own, with k nodes before it in preorder, give t:
---                         0 is a leaf; else c is node k + 1, its parent is own, and its two slots give its two trees
+--     Reads own k c t     the tables, read at a slot that holds c and belongs to node own, with k nodes before it
+--                         in preorder, give t: 0 is a leaf; else c is node k + 1, its parent is own, and its two
+--                         slots give its two trees
 --     tables-read         a tree's own tables give it
 --     read-tables         tables that give a tree are its own
 --     Rest                the slot in hand gives the first tree, and the right slots of the waiting nodes the others
@@ -24,7 +25,8 @@ pub data Reads (l r p : List ℕ) : ℕ → ℕ → ℕ → Tree → Type 0 wher
 
 -- a list whose part from k on is known: its entry at k, and its parts further on
 head-at : (l : List ℕ) (k x : ℕ) (w : List ℕ) → drop k l ≡ x ∷ w → getD l k 0 ≡ x
-head-at l k x w e = sym (getD-drop k l 0 0 ∙ ap (λ (j : ℕ). getD l j 0) (add-zero k)) ∙ ap (λ (c : List ℕ). getD c 0 0) e
+head-at l k x w e =
+    sym (getD-drop k l 0 0 ∙ ap (λ (j : ℕ). getD l j 0) (add-zero k)) ∙ ap (λ (c : List ℕ). getD c 0 0) e
 
 module _ (l : List ℕ) (k x : ℕ) (u v w : List ℕ) (e : drop k l ≡ x ∷ ((u ++ v) ++ w)) where
   part-one : drop (suc k) l ≡ u ++ (v ++ w)
@@ -56,9 +58,13 @@ read-part (node a b) own k l r p u v w el er ep =
     (part-one p k _ (parents (suc k) (suc (suc k)) a) (parents (suc k) m b) w ep)))
     (same-read (head-at r k _ _ er ∙ ap (λ (j : ℕ). root j b) further)
     (read-part b (suc k) (suc k + size a) l r p u v w
-    (part-two l k _ (lefts (suc (suc k)) a) (lefts m b) u el (size a) (length-lefts (suc (suc k)) a) ∙ ap (λ (j : ℕ). lefts j b ++ u) further)
-    (part-two r k _ (rights (suc (suc k)) a) (rights m b) v er (size a) (length-rights (suc (suc k)) a) ∙ ap (λ (j : ℕ). rights j b ++ v) further)
-    (part-two p k _ (parents (suc k) (suc (suc k)) a) (parents (suc k) m b) w ep (size a) (length-parents (suc k) (suc (suc k)) a) ∙ ap (λ (j : ℕ). parents (suc k) j b ++ w) further)))
+    (part-two l k _ (lefts (suc (suc k)) a) (lefts m b) u el (size a) (length-lefts (suc (suc k)) a)
+    ∙ ap (λ (j : ℕ). lefts j b ++ u) further)
+    (part-two r k _ (rights (suc (suc k)) a) (rights m b) v er (size a) (length-rights (suc (suc k)) a)
+    ∙ ap (λ (j : ℕ). rights j b ++ v) further)
+    (part-two p k _ (parents (suc k) (suc (suc k)) a) (parents (suc k) m b) w ep (size a)
+    (length-parents (suc k) (suc (suc k)) a)
+    ∙ ap (λ (j : ℕ). parents (suc k) j b ++ w) further)))
   where
     m : ℕ
     m = suc (suc k) + size a
@@ -72,7 +78,8 @@ tables-read t =
     (sym (append-nil (lefts 1 t))) (sym (append-nil (rights 1 t))) (sym (append-nil (parents 0 1 t)))
 
 -- the rows of a node and of its two trees, from the list's part
-rows : (l : List ℕ) (k n m : ℕ) (u v : List ℕ) → k < length l → take n (drop (suc k) l) ≡ u → take m (drop (suc k + n) l) ≡ v
+rows : (l : List ℕ) (k n m : ℕ) (u v : List ℕ) → k < length l → take n (drop (suc k) l) ≡ u
+    → take m (drop (suc k + n) l) ≡ v
     → take (suc (n + m)) (drop k l) ≡ getD l k 0 ∷ (u ++ v)
 rows l k n m u v h e f =
     ap (take (suc (n + m))) (drop-cons l k 0 h)
@@ -85,24 +92,34 @@ read-root none = refl
 read-root (some e x y) = refl
 
 module _ (l r p : List ℕ) where
-  tables-part : {own k c : ℕ} {t : Tree} → Reads l r p own k c t → k + size t ≤ length l → k + size t ≤ length r → k + size t ≤ length p
-      → (take (size t) (drop k l) ≡ lefts (suc k) t) × (take (size t) (drop k r) ≡ rights (suc k) t) × (take (size t) (drop k p) ≡ parents own (suc k) t)
+  tables-part : {own k c : ℕ} {t : Tree} → Reads l r p own k c t → k + size t ≤ length l → k + size t ≤ length r
+      → k + size t ≤ length p
+      → (take (size t) (drop k l) ≡ lefts (suc k) t) × (take (size t) (drop k r) ≡ rights (suc k) t)
+      × (take (size t) (drop k p) ≡ parents own (suc k) t)
   unfolding size lefts rights parents
   tables-part none hl hr hp = (refl, refl, refl)
   tables-part (some {own} {k} {a} {b} e x y) hl hr hp =
       let i = tables-part x (omega arith) (omega arith) (omega arith) in
       let j = tables-part y (omega arith) (omega arith) (omega arith) in (
-        rows l k (size a) (size b) _ _ (omega arith) (i .0) (j .0) ∙ ap₂ (λ (c : ℕ) (w : List ℕ). c ∷ (lefts (suc (suc k)) a ++ w)) (read-root x) (ap (λ (m : ℕ). lefts m b) (beyond k a)),
+        rows l k (size a) (size b) _ _ (omega arith) (i .0) (j .0)
+            ∙ ap₂ (λ (c : ℕ) (w : List ℕ). c ∷ (lefts (suc (suc k)) a ++ w)) (read-root x)
+            (ap (λ (m : ℕ). lefts m b) (beyond k a)),
         rows r k (size a) (size b) _ _ (omega arith) (i .1) (j .1)
-            ∙ ap₂ (λ (c : ℕ) (w : List ℕ). c ∷ (rights (suc (suc k)) a ++ w)) (read-root y ∙ ap (λ (m : ℕ). root m b) (beyond k a)) (ap (λ (m : ℕ). rights m b) (beyond k a)),
-        rows p k (size a) (size b) _ _ (omega arith) (i .2) (j .2) ∙ ap₂ (λ (c : ℕ) (w : List ℕ). c ∷ (parents (suc k) (suc (suc k)) a ++ w)) e (ap (λ (m : ℕ). parents (suc k) m b) (beyond k a)),
+            ∙ ap₂ (λ (c : ℕ) (w : List ℕ). c ∷ (rights (suc (suc k)) a ++ w))
+            (read-root y ∙ ap (λ (m : ℕ). root m b) (beyond k a)) (ap (λ (m : ℕ). rights m b) (beyond k a)),
+        rows p k (size a) (size b) _ _ (omega arith) (i .2) (j .2)
+            ∙ ap₂ (λ (c : ℕ) (w : List ℕ). c ∷ (parents (suc k) (suc (suc k)) a ++ w)) e
+            (ap (λ (m : ℕ). parents (suc k) m b) (beyond k a)),
       )
 
   pub read-tables : {c : ℕ} {t : Tree} → Reads l r p 0 0 c t → length l ≡ size t → length r ≡ size t → length p ≡ size t
       → (l ≡ lefts 1 t) × (r ≡ rights 1 t) × (p ≡ parents 0 1 t)
   read-tables {t = t} q hl hr hp =
-      let i = tables-part q (omega arith) (omega arith) (omega arith) in
-      (sym (take-all (size t) l (omega arith)) ∙ i .0, sym (take-all (size t) r (omega arith)) ∙ i .1, sym (take-all (size t) p (omega arith)) ∙ i .2)
+      let i = tables-part q (omega arith) (omega arith) (omega arith) in (
+        sym (take-all (size t) l (omega arith)) ∙ i .0,
+        sym (take-all (size t) r (omega arith)) ∙ i .1,
+        sym (take-all (size t) p (omega arith)) ∙ i .2,
+      )
 
 -- what stands at node c of a table; 0 is no node
 abbrev pub entry : List ℕ → ℕ → ℕ
@@ -125,14 +142,16 @@ module _ (l r p : List ℕ) where
       let top : s ≡ s′ = cc in
       let below : st ≡ su = cc in
       subst (λ (j : ℕ). Rest l r p s′ j (entry r s′) su ts) e
-      (subst (λ (w : List ℕ). Rest l r p s′ k (entry r s′) w ts) below (subst (λ (j : ℕ). Rest l r p j k (entry r j) st ts) top q))
+      (subst (λ (w : List ℕ). Rest l r p s′ k (entry r s′) w ts) below
+      (subst (λ (j : ℕ). Rest l r p j k (entry r j) st ts) top q))
 
   behind-leaf : (k : ℕ) → k + size leaf ≡ k
   unfolding size
   behind-leaf k = add-zero k
 
   -- what is left of a rest of two or more trees, the first of them a leaf
-  pub rest-pop : {own k c : ℕ} {st : List ℕ} {ts : List Tree} → Rest l r p own k c st ts → c ≡ 0 → (s : ℕ) (su : List ℕ) → st ≡ s ∷ su
+  pub rest-pop : {own k c : ℕ} {st : List ℕ} {ts : List Tree} → Rest l r p own k c st ts → c ≡ 0 → (s : ℕ) (su : List ℕ)
+      → st ≡ s ∷ su
       → (us : List Tree) × Rest l r p s k (entry r s) su us × (words ts ≡ 0 ∷ words us)
   unfolding words word
   rest-pop (last q) z s su e = absurd (omega (arith, ap length e))
@@ -141,7 +160,8 @@ module _ (l r p : List ℕ) where
       let same : k + size t ≡ k = ap (λ (x : Tree). k + size x) one ∙ behind-leaf k in
       (ts, moved same e f, ap (λ (x : Tree). word x ++ words ts) one)
 
-  pub rest-last : {own k c : ℕ} {st : List ℕ} {ts : List Tree} → Rest l r p own k c st ts → c ≡ 0 → st ≡ [] → words ts ≡ 0 ∷ []
+  pub rest-last : {own k c : ℕ} {st : List ℕ} {ts : List Tree} → Rest l r p own k c st ts → c ≡ 0 → st ≡ []
+      → words ts ≡ 0 ∷ []
   unfolding words word
   rest-last (last {t = t} q) z e = rw (leaf-read q z)
   rest-last (more q f) z e = absurd (omega (arith, ap length e))
@@ -158,7 +178,8 @@ module _ (l r p : List ℕ) where
     pub rest : Rest l r p (suc k) (suc k) (getD l k 0) (suc k ∷ st) trees
     pub beats : words ts ≡ 1 ∷ words trees
 
-  pub rest-open : {own k c : ℕ} {st : List ℕ} {ts : List Tree} → Rest l r p own k c st ts → ((c ≡ 0) → ⊥) → Opened own k c st ts
+  pub rest-open : {own k c : ℕ} {st : List ℕ} {ts : List Tree} → Rest l r p own k c st ts → ((c ≡ 0) → ⊥)
+      → Opened own k c st ts
   unfolding words word
   rest-open (last none) z = absurd (z refl)
   rest-open (last (some {own} {k} {a} {b} e x y)) z = record {
@@ -183,7 +204,8 @@ module _ (l r p : List ℕ) where
     others : List Tree
     split : ts ≡ first ∷ others
     read : Reads l r p own k c first
-    instead : {j m d : ℕ} {t : Tree} → Reads l r p j m d t → m + size t ≡ k + size first → Rest l r p j m d st (t ∷ others)
+    instead : {j m d : ℕ} {t : Tree} → Reads l r p j m d t → m + size t ≡ k + size first
+        → Rest l r p j m d st (t ∷ others)
 
   headed : {own k c : ℕ} {st : List ℕ} {ts : List Tree} → Rest l r p own k c st ts → Headed own k c st ts
   headed (last {t = t} q) = record { first = t; others = []; split = refl; read = q; instead = λ x e. last x }
@@ -199,10 +221,13 @@ module _ (l r p : List ℕ) where
       let h = headed f in
       let b = h .first in
       let others = h .others in
-      let left : Reads l r p (suc k) (suc k) (getD l k 0) a = subst (λ (j : ℕ). Reads l r p (suc k) (suc k) j a) g x in (
+      let left : Reads l r p (suc k) (suc k) (getD l k 0) a =
+      subst (λ (j : ℕ). Reads l r p (suc k) (suc k) j a) g x in (
         node a b ∷ others,
         h .instead (some e left (h .read)) (behind-node k a b),
-        ap (λ (w : List ℕ). 1 ∷ w) (append-assoc (word a) (word b) (words others) ∙ ap (λ (vs : List Tree). word a ++ words vs) (sym (h .split))),
+        ap (λ (w : List ℕ). 1 ∷ w)
+            (append-assoc (word a) (word b) (words others)
+            ∙ ap (λ (vs : List Tree). word a ++ words vs) (sym (h .split))),
       )
 
 -- what a node's slot gives, opened

@@ -1,11 +1,11 @@
 -- The loop that reads tables from the root on and writes the beats that it meets.
---     Traced-to           after `at` beats, k of them nodes: what is still to be read would make a tree of the tables whose word the beats
---                         begin, and every tree of the tables has such a word and such a rest
+--     Traced-to           after `at` beats, k of them nodes: what is still to be read would make a tree of the tables
+--                         whose word the beats begin, and every tree of the tables has such a word and such a rest
 --     trace-start         before the first turn
 --     trace-leaf          a 0, and on to the right slot of the node that waits last
 --     trace-node          a 1, and on to the left slot of that node
---     trace-stuck, trace-other     tables that no schedule has: no node waits though beats are missing; or a slot does not hold the next
---                         node, or that has another parent
+--     trace-stuck, trace-other     tables that no schedule has: no node waits though beats are missing; or a slot does
+--                                  not hold the next node, or that has another parent
 --     trace-end           when the beats are full, the tables are theirs exactly if the last slot is a leaf
 --     traced-whole, traced-broken     what the loop's answer says
 --     has-read            the tree that a schedule and its tables have is read from the tables
@@ -31,7 +31,20 @@ use Rattle.schedule.proofs.Tally.{ones-append}
 use Rattle.tree.proofs.Word.{ones-word}
 use Rattle.tree.proofs.Forest.{words}
 use Rattle.tree.proofs.Planted.{pop, push}
-use Rattle.tree_back.proofs.Slots.{Reads, none, tables-read, read-tables, entry, Rest, last, more, rest-pop, rest-last, rest-open, rest-close}
+use Rattle.tree_back.proofs.Slots.{
+  Reads,
+  none,
+  tables-read,
+  read-tables,
+  entry,
+  Rest,
+  last,
+  more,
+  rest-pop,
+  rest-last,
+  rest-open,
+  rest-close,
+}
 
 root-number : (t : Tree) → root 1 t ≡ rootNumber (size t)
 unfolding root size
@@ -57,7 +70,8 @@ pub record Traced-to (n : ℕ) (l r p : List ℕ) (at k own c d : ℕ) (st buf :
   pub complete : (t : Tree) → Reads l r p 0 0 (rootNumber n) t
       → (ts : List Tree) × Rest l r p own k c (reverse (take d st)) ts × (word t ≡ take at buf ++ words ts)
 
-pub trace-start : (n : ℕ) (l r p st buf : List ℕ) → length buf ≡ n + n → n ≤ length st → Traced-to n l r p 0 0 0 (rootNumber n) 0 st buf
+pub trace-start : (n : ℕ) (l r p st buf : List ℕ) → length buf ≡ n + n → n ≤ length st
+    → Traced-to n l r p 0 0 0 (rootNumber n) 0 st buf
 unfolding words ones
 trace-start n l r p st buf e h = record {
   within = omega arith;
@@ -90,12 +104,14 @@ module _ (n : ℕ) (p : List ℕ) (k c own : ℕ) (e : length p ≡ n) where
   pub next-not : isNext p k c own ≡ false → (k < n) × (c ≡ suc k) × (getD p k 0 ≡ own) → ⊥
   next-not f q =
       true≢false (sym (and-eq-true-iff (ltb k (length p) && eqb c (suc k)) (eqb (getD p k 0) own) .1 (
-        and-eq-true-iff (ltb k (length p)) (eqb c (suc k)) .1 (lt-ltb k (length p) (omega (arith, q .0)), eq-eqb c (suc k) (q .1)),
+        and-eq-true-iff (ltb k (length p)) (eqb c (suc k)) .1
+            (lt-ltb k (length p) (omega (arith, q .0)), eq-eqb c (suc k) (q .1)),
         eq-eqb (getD p k 0) own (q .2),
       )) ∙ f)
 
 -- one beat more
-ones-more : (buf : List ℕ) (at v : ℕ) → at < length buf → ones (take (suc at) (set buf at v)) ≡ ones (take at buf ++ v ∷ [])
+ones-more : (buf : List ℕ) (at v : ℕ) → at < length buf
+    → ones (take (suc at) (set buf at v)) ≡ ones (take at buf ++ v ∷ [])
 ones-more buf at v h = ap ones (take-suc-set buf at v h)
 
 zero-more : (b : List ℕ) → ones (b ++ 0 ∷ []) ≡ ones b
@@ -106,10 +122,12 @@ one-more : (b : List ℕ) → ones (b ++ 1 ∷ []) ≡ suc (ones b)
 unfolding ones
 one-more b = omega (arith, ones-append b (1 ∷ []))
 
-longer : (buf : List ℕ) (at v : ℕ) (w : List ℕ) → at < length buf → take (suc at) (set buf at v) ++ w ≡ take at buf ++ (v ∷ w)
+longer : (buf : List ℕ) (at v : ℕ) (w : List ℕ) → at < length buf
+    → take (suc at) (set buf at v) ++ w ≡ take at buf ++ (v ∷ w)
 longer buf at v w h = rw (take-suc-set buf at v) (append-assoc (take at buf) (v ∷ []) w)
 
-module _ {n : ℕ} {l r p : List ℕ} {at k own c d : ℕ} {st buf : List ℕ} (u : Traced-to n l r p at k own c d st buf) (h : at < n + n) where
+module _ {n : ℕ} {l r p : List ℕ} {at k own c d : ℕ} {st buf : List ℕ} (u : Traced-to n l r p at k own c d st buf)
+    (h : at < n + n) where
   inside : at < length buf
   inside = omega (arith, u .long)
 
@@ -123,18 +141,21 @@ module _ {n : ℕ} {l r p : List ℕ} {at k own c d : ℕ} {st buf : List ℕ} (
     popped : reverse (take d st) ≡ top ∷ reverse (take e st)
     popped = rw f (pop st e full)
 
-    leaf-sound : (ts : List Tree) → Rest l r p top k (entry r top) (reverse (take e st)) ts → Grown n l r p (take (suc at) (set buf at 0)) (words ts)
+    leaf-sound : (ts : List Tree) → Rest l r p top k (entry r top) (reverse (take e st)) ts
+        → Grown n l r p (take (suc at) (set buf at 0)) (words ts)
     unfolding words word size
     leaf-sound ts q =
         let rest : Rest l r p own k c (reverse (take d st)) (leaf ∷ ts) =
         subst (λ (w : List ℕ). Rest l r p own k c w (leaf ∷ ts)) (sym popped)
         (subst (λ (j : ℕ). Rest l r p own k j (top ∷ reverse (take e st)) (leaf ∷ ts)) (sym z)
-        (more none (subst (λ (j : ℕ). Rest l r p top j (entry r top) (reverse (take e st)) ts) (sym (add-zero k)) q))) in
+        (more none
+        (subst (λ (j : ℕ). Rest l r p top j (entry r top) (reverse (take e st)) ts) (sym (add-zero k)) q))) in
         let g = u .sound (leaf ∷ ts) rest in
         record { tree = g .tree; read = g .read; beats = g .beats ∙ sym (longer buf at 0 (words ts) inside) }
 
     leaf-complete : (t : Tree) → Reads l r p 0 0 (rootNumber n) t
-        → (ts : List Tree) × Rest l r p top k (entry r top) (reverse (take e st)) ts × (word t ≡ take (suc at) (set buf at 0) ++ words ts)
+        → (ts : List Tree) × Rest l r p top k (entry r top) (reverse (take e st)) ts
+        × (word t ≡ take (suc at) (set buf at 0) ++ words ts)
     leaf-complete t q =
         let g = u .complete t q in
         let f = rest-pop l r p (g .1) z top (reverse (take e st)) popped in
@@ -160,7 +181,8 @@ module _ {n : ℕ} {l r p : List ℕ} {at k own c d : ℕ} {st buf : List ℕ} (
   trace-leaf z m =
       let f : d ≡ suc (d - 1) = omega (arith, m) in
       rw (add-one at)
-      (subst (λ (j : ℕ). Traced-to n l r p (suc at) k (getD st (d - 1) 0) j (d - 1) st (set buf at 0)) (entry-is r (getD st (d - 1) 0) (u .low (d - 1) (omega arith) .0))
+      (subst (λ (j : ℕ). Traced-to n l r p (suc at) k (getD st (d - 1) 0) j (d - 1) st (set buf at 0))
+      (entry-is r (getD st (d - 1) 0) (u .low (d - 1) (omega arith) .0))
       (leaf-more z (d - 1) f))
 
   module _ (next : c ≡ suc k) (inner : k < n) (upper : getD p k 0 ≡ own) where
@@ -177,7 +199,8 @@ module _ {n : ℕ} {l r p : List ℕ} {at k own c d : ℕ} {st buf : List ℕ} (
         subst (λ (w : List ℕ). Rest l r p (suc k) (suc k) (getD l k 0) w ts) pushed
         (subst (λ (j : ℕ). Rest l r p j (suc k) (getD l k 0) (reverse (take (suc d) (set st d c))) ts) next q) in
         let f = rest-close l r p upper open-rest refl in
-        let g = u .sound (f .0) (subst (λ (j : ℕ). Rest l r p own k j (reverse (take d st)) (f .0)) (sym next) (f .1)) in
+        let g =
+        u .sound (f .0) (subst (λ (j : ℕ). Rest l r p own k j (reverse (take d st)) (f .0)) (sym next) (f .1)) in
         record {
           tree = g .tree;
           read = g .read;
@@ -185,13 +208,15 @@ module _ {n : ℕ} {l r p : List ℕ} {at k own c d : ℕ} {st buf : List ℕ} (
         }
 
     node-complete : (t : Tree) → Reads l r p 0 0 (rootNumber n) t
-        → (ts : List Tree) × Rest l r p c (suc k) (getD l k 0) (reverse (take (suc d) (set st d c))) ts × (word t ≡ take (suc at) (set buf at 1) ++ words ts)
+        → (ts : List Tree) × Rest l r p c (suc k) (getD l k 0) (reverse (take (suc d) (set st d c))) ts
+        × (word t ≡ take (suc at) (set buf at 1) ++ words ts)
     node-complete t q =
         let g = u .complete t q in
         let f = rest-open l r p (g .1) (λ z. omega arith) in (
           f .trees,
           subst (λ (w : List ℕ). Rest l r p c (suc k) (getD l k 0) w (f .trees)) (sym pushed)
-              (subst (λ (j : ℕ). Rest l r p j (suc k) (getD l k 0) (suc k ∷ reverse (take d st)) (f .trees)) (sym next) (f .rest)),
+              (subst (λ (j : ℕ). Rest l r p j (suc k) (getD l k 0) (suc k ∷ reverse (take d st)) (f .trees)) (sym next)
+              (f .rest)),
           g .2 ∙ ap (λ (w : List ℕ). take at buf ++ w) (f .beats) ∙ sym (longer buf at 1 (words (f .trees)) inside),
         )
 
@@ -212,14 +237,17 @@ module _ {n : ℕ} {l r p : List ℕ} {at k own c d : ℕ} {st buf : List ℕ} (
         lower : (j : ℕ) → j < suc d → (1 ≤ getD (set st d c) j 0) × (getD (set st d c) j 0 ≤ suc k)
         lower j g =
             elim (ℕ-discrete j d) [
-              | yes e ↦ rw e (omega (arith, getD-set-same st d c 0 deeper), omega (arith, getD-set-same st d c 0 deeper))
+              | yes e ↦
+                  rw e (omega (arith, getD-set-same st d c 0 deeper), omega (arith, getD-set-same st d c 0 deeper))
               | no m ↦ below (getD-set-other st d j c 0 m) (u .low j (omega (arith, m)))
             ]
           where
-            below : getD (set st d c) j 0 ≡ getD st j 0 → (1 ≤ getD st j 0) × (getD st j 0 ≤ k) → (1 ≤ getD (set st d c) j 0) × (getD (set st d c) j 0 ≤ suc k)
+            below : getD (set st d c) j 0 ≡ getD st j 0 → (1 ≤ getD st j 0) × (getD st j 0 ≤ k)
+                → (1 ≤ getD (set st d c) j 0) × (getD (set st d c) j 0 ≤ suc k)
             below e f = (omega (arith, f .0), omega (arith, f .1))
 
-  pub trace-node : (k < n) × (c ≡ suc k) × (getD p k 0 ≡ own) → Traced-to n l r p (at + 1) (k + 1) c (getD l k 0) (d + 1) (set st d c) (set buf at 1)
+  pub trace-node : (k < n) × (c ≡ suc k) × (getD p k 0 ≡ own)
+      → Traced-to n l r p (at + 1) (k + 1) c (getD l k 0) (d + 1) (set st d c) (set buf at 1)
   trace-node q = rw (add-one at, add-one k, add-one d) (node-more (q .1) (q .0) (q .2))
 
 -- the tree that a schedule and its tables have is read from the tables
@@ -231,7 +259,8 @@ has-read {n} {b} {l} {r} {p} q =
     (subst (λ (w : List ℕ). Reads l w (parents 0 1 t) 0 0 (root 1 t) t) (sym (q .right))
     (subst (λ (w : List ℕ). Reads w (rights 1 t) (parents 0 1 t) 0 0 (root 1 t) t) (sym (q .left)) (tables-read t))))
 
-none-has : (n : ℕ) (l r p : List ℕ) → ((t : Tree) → Reads l r p 0 0 (rootNumber n) t → size t ≡ n → ⊥) → (b : List ℕ) → Has n b l r p → ⊥
+none-has : (n : ℕ) (l r p : List ℕ) → ((t : Tree) → Reads l r p 0 0 (rootNumber n) t → size t ≡ n → ⊥) → (b : List ℕ)
+    → Has n b l r p → ⊥
 none-has n l r p f b q = f (q .tree) (has-read q) (q .nodes)
 
 module _ {n : ℕ} {l r p : List ℕ} {at k own c d : ℕ} {st buf : List ℕ} (u : Traced-to n l r p at k own c d st buf) where
@@ -239,19 +268,28 @@ module _ {n : ℕ} {l r p : List ℕ} {at k own c d : ℕ} {st buf : List ℕ} (
   unfolding ones zeros
   trace-stuck z e h = none-has n l r p (λ t q m. short t (u .complete t q) m)
     where
-      short : (t : Tree) → (ts : List Tree) × Rest l r p own k c (reverse (take d st)) ts × (word t ≡ take at buf ++ words ts) → size t ≡ n → ⊥
+      short : (t : Tree)
+          → (ts : List Tree) × Rest l r p own k c (reverse (take d st)) ts × (word t ≡ take at buf ++ words ts)
+          → size t ≡ n → ⊥
       short t g m =
-          let w : word t ≡ take at buf ++ 0 ∷ [] = g .2 ∙ ap (λ (w : List ℕ). take at buf ++ w) (rest-last l r p (g .1) z (ap (λ (j : ℕ). reverse (take j st)) e)) in
+          let w : word t ≡ take at buf ++ 0 ∷ [] =
+          g .2
+          ∙ ap (λ (w : List ℕ). take at buf ++ w) (rest-last l r p (g .1) z (ap (λ (j : ℕ). reverse (take j st)) e)) in
           omega (arith, u .deep, ones-word t, ap ones w, ones-append (take at buf) (0 ∷ []), u .counted)
 
   -- a node in the slot is one more than were met
-  beyond : ((c ≡ 0) → ⊥) → (t : Tree) → Reads l r p 0 0 (rootNumber n) t → size t ≡ n → (k < n) × (c ≡ suc k) × (getD p k 0 ≡ own)
+  beyond : ((c ≡ 0) → ⊥) → (t : Tree) → Reads l r p 0 0 (rootNumber n) t → size t ≡ n
+      → (k < n) × (c ≡ suc k) × (getD p k 0 ≡ own)
   unfolding ones
   beyond z t q m =
       let g = u .complete t q in
       let f = rest-open l r p (g .1) z in
-      let w : word t ≡ take at buf ++ 1 ∷ words (f .trees) = g .2 ∙ ap (λ (w : List ℕ). take at buf ++ w) (f .beats) in
-      (omega (arith, u .counted, ones-word t, ap ones w, ones-append (take at buf) (1 ∷ words (f .trees))), f .next, f .parent)
+      let w : word t ≡ take at buf ++ 1 ∷ words (f .trees) =
+      g .2 ∙ ap (λ (w : List ℕ). take at buf ++ w) (f .beats) in (
+        omega (arith, u .counted, ones-word t, ap ones w, ones-append (take at buf) (1 ∷ words (f .trees))),
+        f .next,
+        f .parent,
+      )
 
   pub trace-other : ((c ≡ 0) → ⊥) → ((k < n) × (c ≡ suc k) × (getD p k 0 ≡ own) → ⊥) → (b : List ℕ) → Has n b l r p → ⊥
   trace-other z f = none-has n l r p (λ t q m. f (beyond z t q m))
@@ -270,8 +308,16 @@ module _ {n : ℕ} {l r p : List ℕ} {at k own c d : ℕ} {st buf : List ℕ} (
         subst (λ (j : ℕ). Rest l r p own k c (reverse (take j st)) (leaf ∷ [])) (sym (met .1))
         (subst (λ (j : ℕ). Rest l r p own k j [] (leaf ∷ [])) (sym z) (last none)) in
         let g = u .sound (leaf ∷ []) rest in
-        let w : word (g .tree) ≡ buf ++ 0 ∷ [] = g .beats ∙ ap (λ (v : List ℕ). v ++ 0 ∷ []) (take-all at buf (omega (arith, u .long))) in
-        let m : size (g .tree) ≡ n = omega (arith, ones-word (g .tree), ap ones (g .beats), ones-append (take at buf) (0 ∷ []), u .counted, met .0) in
+        let w : word (g .tree) ≡ buf ++ 0 ∷ [] =
+        g .beats ∙ ap (λ (v : List ℕ). v ++ 0 ∷ []) (take-all at buf (omega (arith, u .long))) in
+        let m : size (g .tree) ≡ n = omega (
+          arith,
+          ones-word (g .tree),
+          ap ones (g .beats),
+          ones-append (take at buf) (0 ∷ []),
+          u .counted,
+          met .0,
+        ) in
         let f = read-tables l r p (g .read) (hl ∙ sym m) (hr ∙ sym m) (hp ∙ sym m) in
         record { tree = g .tree; nodes = m; beats = sym w; left = f .0; right = f .1; parent = f .2 }
 

@@ -1,7 +1,8 @@
 -- The closed formula for N: C(t+s, t) − C(t+s, t+1).
 --     paths t s       how many ways there are to order t ones and s zeros, by the last of them
 --     paths-choose    it is C(t+s, t)
---     N-paths         the schedules of t, s, and as many orders as t+1 ones and s−1 zeros have, are all the orders of t, s
+--     N-paths         the schedules of t, s, and as many orders as t+1 ones and s−1 zeros have,
+--                     are all the orders of t, s
 --     N-choose        N(t, s) + C(t+s, t+1) = C(t+s, t)
 -- Assumes nothing.
 use mathlib.Core.Path.{_≡_, refl, _∙_, ap, sym}
@@ -42,15 +43,19 @@ C-all (suc n) = omega (arith, C-all n, C-over n (suc n) (omega arith))
 paths-choose : (t s n : ℕ) → n ≡ t + s → paths t s ≡ C n t
 unfolding paths C
 paths-choose zero s n e = refl
-paths-choose (suc t) zero n e = let whole : suc t ≡ n = omega arith in sym (C-all (suc t)) ∙ ap (λ (m : ℕ). C m (suc t)) whole
+paths-choose (suc t) zero n e =
+    let whole : suc t ≡ n = omega arith in
+    sym (C-all (suc t)) ∙ ap (λ (m : ℕ). C m (suc t)) whole
 paths-choose (suc t) (suc s) zero e = absurd (omega arith)
-paths-choose (suc t) (suc s) (suc n) e = omega (arith, paths-choose t (suc s) n (omega arith), paths-choose (suc t) s n (omega arith))
+paths-choose (suc t) (suc s) (suc n) e =
+    omega (arith, paths-choose t (suc s) n (omega arith), paths-choose (suc t) s n (omega arith))
 
 N-paths : (t s : ℕ) → s ≤ t → N t (suc s) + paths (suc t) s ≡ paths t (suc s)
 unfolding paths
 N-paths zero zero h = omega (arith, N-over 0 1 (omega arith))
 N-paths zero (suc s) h = absurd (omega arith)
-N-paths (suc t) zero h = omega (arith, N-add t 0 (omega arith), N-zero (suc t), N-paths t 0 (omega arith), paths-none (suc t))
+N-paths (suc t) zero h =
+    omega (arith, N-add t 0 (omega arith), N-zero (suc t), N-paths t 0 (omega arith), paths-none (suc t))
 N-paths (suc t) (suc s) h = inside (N-paths (suc t) s (omega arith)) (N-paths t (suc s)) (decLe (suc s) t)
   where
     inside : N (suc t) (suc s) + paths (suc (suc t)) s ≡ paths (suc t) (suc s)
@@ -58,8 +63,15 @@ N-paths (suc t) (suc s) h = inside (N-paths (suc t) s (omega arith)) (N-paths t 
         → Dec (suc s ≤ t)
         → N (suc t) (suc (suc s)) + paths (suc (suc t)) (suc s) ≡ paths (suc t) (suc (suc s))
     inside left above (yes k) = omega (arith, left, above k, N-add t (suc s) k)
-    inside left above (no k) = let e : s ≡ t = omega arith in rw e (omega (arith, N-over (suc t) (suc (suc t)) (omega arith), paths-turn (suc (suc t)) (suc t)))
+    inside left above (no k) =
+        let e : s ≡ t = omega arith in
+        rw e (omega (arith, N-over (suc t) (suc (suc t)) (omega arith), paths-turn (suc (suc t)) (suc t)))
 
 pub N-choose : (t s : ℕ) → s ≤ t → N t s + C (t + s) (suc t) ≡ C (t + s) t
 N-choose t zero h = rw (add-zero t) (omega (arith, N-zero t, C-all t, C-over t (suc t) (omega arith)))
-N-choose t (suc s) h = omega (arith, N-paths t s (omega arith), paths-choose t (suc s) (t + suc s) refl, paths-choose (suc t) s (t + suc s) (omega arith))
+N-choose t (suc s) h = omega (
+  arith,
+  N-paths t s (omega arith),
+  paths-choose t (suc s) (t + suc s) refl,
+  paths-choose (suc t) s (t + suc s) (omega arith),
+)

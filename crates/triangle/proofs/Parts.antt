@@ -1,7 +1,10 @@
--- The look-up's parts hold what the table holds: tested once over each part, and a law turns the test into the entry [N7].
+-- The look-up's parts hold what the table holds: tested once over each part, and a law turns the
+-- test into the entry [N7].
 --     pair-le                       the product that it halves grows with the row
---     place-below, place-from       a cell before a row's first is of a row before it, and one from there on of that row or a later one
---     agree                         the test, which the check computes: the rows of the table stand in the part one after another
+--     place-below, place-from       a cell before a row's first is of a row before it, and one from there on
+--                                   of that row or a later one
+--     agree                         the test, which the check computes: the rows of the table stand in
+--                                   the part one after another
 --     low-at, middle-at, high-at    so the entry at t, s stands in its part
 --     at-over                       past s = t the table has zeros
 -- Assumes nothing.
@@ -29,14 +32,18 @@ module _ (t s row : ℕ) where
   place-below h = elim (decLe row t) [ yes k ↦ absurd (omega (arith, pair-le row t k)) | no k ↦ omega arith ]
 
   pub place-from : s ≤ t → cell row 0 ≤ cell t s → row ≤ t
-  place-from k h = elim (decLe row t) [ yes l ↦ l | no l ↦ absurd (omega (arith, next t, pair-le (t + 1) row (omega arith))) ]
+  place-from k h = elim (decLe row t) [
+    | yes l ↦ l
+    | no l ↦ absurd (omega (arith, next t, pair-le (t + 1) row (omega arith)))
+  ]
     where
       next : (a : ℕ) → (a + 1) * (a + 1 + 1) ≡ a * (a + 1) + 2 * (a + 1)
       next a = omega (arith, mul-suc (a + 1) (a + 1), mul-suc (a + 1) a, mul-comm (a + 1) a)
 
 -- whether the n rows of the table from a first one on, each up to s = t, are the list
 agree : List ℕ → ℕ → ℕ → Bool
-agree l first n = every (λ k. every (λ s. eqb (at (first + k) s) (getD l (cell (first + k) s - cell first 0) 0)) (suc (first + k))) n
+agree l first n =
+    every (λ k. every (λ s. eqb (at (first + k) s) (getD l (cell (first + k) s - cell first 0) 0)) (suc (first + k))) n
 
 agree-at : (l : List ℕ) (first n : ℕ) → T (agree l first n)
     → (t s : ℕ) → first ≤ t → t < first + n → s ≤ t → at t s ≡ getD l (cell t s - cell first 0) 0
@@ -45,8 +52,10 @@ agree-at l first n h t s from below k =
     let row : first + (t - first) ≡ t = omega arith in
     subst (λ m. at m s ≡ getD l (cell m s - cell first 0) 0) row
     (eqb→eq (at (first + (t - first)) s) (getD l (cell (first + (t - first)) s - cell first 0) 0)
-    (every-T (λ j. eqb (at (first + (t - first)) j) (getD l (cell (first + (t - first)) j - cell first 0) 0)) (suc (first + (t - first)))
-    (every-T (λ i. every (λ j. eqb (at (first + i) j) (getD l (cell (first + i) j - cell first 0) 0)) (suc (first + i))) n h (t - first) (omega arith))
+    (every-T (λ j. eqb (at (first + (t - first)) j) (getD l (cell (first + (t - first)) j - cell first 0) 0))
+    (suc (first + (t - first)))
+    (every-T (λ i. every (λ j. eqb (at (first + i) j) (getD l (cell (first + i) j - cell first 0) 0)) (suc (first + i)))
+    n h (t - first) (omega arith))
     s (omega arith)))
 
 low-agrees : T (agree low 0 middleRow)
@@ -73,4 +82,7 @@ pub high-at : (t s : ℕ) → highRow ≤ t → t ≤ largest → s ≤ t → at
 high-at t s from h k = agree-at high highRow (suc largest - highRow) high-agrees t s from (omega arith) k
 
 pub at-over : (t s : ℕ) → t < s → at t s ≡ 0
-at-over t s h = elim (decLe s largest) [ yes k ↦ at-N t s (omega arith) k ∙ N-over t s h | no k ↦ at-column-outside t s (omega arith) ]
+at-over t s h = elim (decLe s largest) [
+  | yes k ↦ at-N t s (omega arith) k ∙ N-over t s h
+  | no k ↦ at-column-outside t s (omega arith)
+]

@@ -1,6 +1,7 @@
--- The table holds the counts: its addition rule is tested once over the whole table, and a law turns the test into N at each entry [N6] [F2].
---     ruled, sized, bounded     the tests, which the check computes: each entry follows from its neighbours; each row is as long as the table; no entry is above the last
---                               [N6] [F2]
+-- The table holds the counts: its addition rule is tested once over the whole table, and a law turns the test into N
+-- at each entry [N6] [F2].
+--     ruled, sized, bounded     the tests, which the check computes: each entry follows from its neighbours; each row
+--                               is as long as the table; no entry is above the last [N6] [F2]
 --     at-N                      the entry at t, s is N(t, s) [N6]
 --     at-row-outside, at-column-outside     outside the table it is 0
 --     at-counted                so it is `counted` everywhere
@@ -34,7 +35,8 @@ ruled : T (throughout (λ t s. eqb (at t s) (rule t s)))
 unfolding throughout rule every
 ruled = tt
 
-sized : T (eqb (length table) (suc largest)) × T (every (λ t. eqb (length (getD table t [])) (suc largest)) (suc largest))
+sized : T (eqb (length table) (suc largest))
+    × T (every (λ t. eqb (length (getD table t [])) (suc largest)) (suc largest))
 unfolding every
 sized = (tt, tt)
 
@@ -48,7 +50,9 @@ bounded = tt
 
 throughout-at : (f : ℕ → ℕ → Bool) → T (throughout f) → (t s : ℕ) → t ≤ largest → s ≤ largest → T (f t s)
 unfolding throughout
-throughout-at f h t s k l = every-T (f t) (suc largest) (every-T (λ i. every (f i) (suc largest)) (suc largest) h t (omega arith)) s (omega arith)
+throughout-at f h t s k l =
+    every-T (f t) (suc largest) (every-T (λ i. every (f i) (suc largest)) (suc largest) h t (omega arith)) s
+    (omega arith)
 
 at-rule : (t s : ℕ) → t ≤ largest → s ≤ largest → at t s ≡ rule t s
 at-rule t s h k = eqb→eq (at t s) (rule t s) (throughout-at (λ i j. eqb (at i j) (rule i j)) ruled t s h k)
@@ -66,10 +70,14 @@ row-outside l n h t s k = rw (List·getD-eq-default l [] {n = t} (omega arith))
 
 column-outside : (l : List (List ℕ)) (n : ℕ) → length l ≤ n → T (every (λ t. eqb (length (getD l t [])) n) n)
     → (t s : ℕ) → n ≤ s → getD (getD l t []) s 0 ≡ 0
-column-outside l n h f t s k = elim (decLt t n) [ yes inside ↦ List·getD-eq-default (getD l t []) 0 (short inside) | no outside ↦ row-outside l n h t s (omega arith) ]
+column-outside l n h f t s k = elim (decLt t n) [
+  | yes inside ↦ List·getD-eq-default (getD l t []) 0 (short inside)
+  | no outside ↦ row-outside l n h t s (omega arith)
+]
   where
     short : t < n → length (getD l t []) ≤ s
-    short inside = omega (arith, eqb→eq (length (getD l t [])) n (every-T (λ i. eqb (length (getD l i [])) n) n f t inside))
+    short inside =
+        omega (arith, eqb→eq (length (getD l t [])) n (every-T (λ i. eqb (length (getD l i [])) n) n f t inside))
 
 pub at-row-outside : (t s : ℕ) → largest < t → at t s ≡ 0
 at-row-outside t s h = row-outside table (suc largest) (omega arith) t s h
@@ -79,10 +87,18 @@ at-column-outside t s h = column-outside table (suc largest) (omega arith) (size
 
 pub at-counted : (t s : ℕ) → at t s ≡ counted t s
 unfolding counted
-at-counted t s = elim (decLe t largest) [ yes h ↦ inside h | no h ↦ at-row-outside t s (omega arith) ∙ simp (lt-leb t largest (omega arith)) ]
+at-counted t s = elim (decLe t largest) [
+  | yes h ↦ inside h
+  | no h ↦ at-row-outside t s (omega arith) ∙ simp (lt-leb t largest (omega arith))
+]
   where
     inside : t ≤ largest → at t s ≡ cond (leb t largest) (N t s) 0
-    inside h = simp (le-leb t largest h) (elim (decLe s largest) [ yes k ↦ at-N t s h k | no k ↦ at-column-outside t s (omega arith) ∙ sym (N-over t s (omega arith)) ])
+    inside h =
+        simp (le-leb t largest h)
+        (elim (decLe s largest) [
+          | yes k ↦ at-N t s h k
+          | no k ↦ at-column-outside t s (omega arith) ∙ sym (N-over t s (omega arith))
+        ])
 
 pub N-most : (t s : ℕ) → t ≤ largest → N t s ≤ most
 N-most t s h = elim (decLe s largest) [ yes k ↦ below k | no k ↦ omega (arith, N-over t s (omega arith)) ]

@@ -30,7 +30,8 @@ one-without-zeros = N-zero
 pub none-above : (t s : ℕ) → t < s → N t s ≡ 0
 none-above = N-over
 
-pub largest-counts : (N 32 32 ≡ 55534064877048198) × (N 32 31 ≡ 55534064877048198) × ((t s : ℕ) → t ≤ largest → N t s ≤ 55534064877048198)
+pub largest-counts : (N 32 32 ≡ 55534064877048198) × (N 32 31 ≡ 55534064877048198)
+    × ((t s : ℕ) → t ≤ largest → N t s ≤ 55534064877048198)
 largest-counts = (sym (at-N 32 32 (omega arith) (omega arith)), sym (at-N 32 31 (omega arith) (omega arith)), N-most)
 
 pub fits-64-bits : (t s : ℕ) → t ≤ largest → N t s < 2 ^ 64

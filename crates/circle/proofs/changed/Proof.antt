@@ -1,5 +1,5 @@
--- `circle::changed` meets its contract: a refusal is the check's, and an accepted schedule's plan says what a step would change.
--- Assumes nothing.
+-- `circle::changed` meets its contract: a refusal is the check's, and an accepted schedule's plan says what a step
+-- would change. Assumes nothing.
 use mathlib.Core.Path.{_≡_, _∙_, ap, sym}
 use borrow.Author.Needs.{needs}
 use Rattle.refusal.specs.declared.Answer.{Answer}
@@ -23,11 +23,15 @@ enum-told c = search needs
 
 -- in the second arm the schedule is accepted
 accepted : (c : tie.After-enum-told)
-    → checked (c .before .before .before .before .args .t) (c .before .before .before .before .args .s) (c .before .before .before .before .args .beats .now) ≡ Verdict.Accepted
+    → checked (c .before .before .before .before .args .t) (c .before .before .before .before .args .s)
+    (c .before .before .before .before .args .beats .now)
+    ≡ Verdict.Accepted
 accepted c = sym (c .before .before .check .ensures) ∙ c .enum-told .given .1
 
 plan-requires : tie.Need-plan-requires
-plan-requires c κs = let args = c .before .before .before .before .args in accepted-form (args .t) (args .s) (args .beats .now) (accepted c)
+plan-requires c κs =
+    let args = c .before .before .before .before .args in
+    accepted-form (args .t) (args .s) (args .beats .now) (accepted c)
 
 changes-requires : tie.Need-changes-requires
 changes-requires c κs = search needs

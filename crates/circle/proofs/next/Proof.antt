@@ -1,5 +1,5 @@
--- `circle::next` meets its contract: a refusal is the check's and leaves what was lent, and an accepted schedule is taken one step on.
--- Assumes nothing.
+-- `circle::next` meets its contract: a refusal is the check's and leaves what was lent, and an accepted schedule is
+-- taken one step on. Assumes nothing.
 use mathlib.Core.Path.{_≡_, _∙_, sym}
 use borrow.Author.Needs.{needs}
 use Rattle.refusal.specs.declared.Verdict.{Verdict}
@@ -24,7 +24,9 @@ start c = c .before .before .before
 
 -- in the second arm the schedule is accepted
 accepted : (c : tie.After-enum-told)
-    → checked (start (c .before .before) .args .t) (start (c .before .before) .args .s) (start (c .before .before) .args .beats .now) ≡ Verdict.Accepted
+    → checked (start (c .before .before) .args .t) (start (c .before .before) .args .s)
+    (start (c .before .before) .args .beats .now)
+    ≡ Verdict.Accepted
 accepted c = sym (c .before .before .check .ensures) ∙ c .enum-told .given .1
 
 step-requires : tie.Need-step-requires
@@ -48,7 +50,8 @@ returns-2 : tie.Need-returns-2
 returns-2 c =
     let stepped = c .before .before in
     let told = stepped .before .before in
-    accepted-so (accepted told) (stepped .step .ensures .1) (stepped .step .ensures .0) (start (told .before .before) .args .beats .now)
+    accepted-so (accepted told) (stepped .step .ensures .1) (stepped .step .ensures .0)
+    (start (told .before .before) .args .beats .now)
 
 pub next-spec : {M : Type 1} → statement M
 next-spec =

@@ -1,7 +1,16 @@
 -- `circle::plan` meets its contract, one shape of the schedule at each return. Assumes nothing.
 use native.Mathlib.Omega.{arith}
 use borrow.Author.Needs.{needs}
-use Rattle.circle.proofs.Stores.{Found, find, found-order, plan-stays, plan-alone, plan-turns, plan-swaps, plan-dips}
+use Rattle.circle.proofs.Stores.{
+  Found,
+  find,
+  found-order,
+  plan-stays,
+  plan-alone,
+  plan-turns,
+  plan-swaps,
+  plan-dips,
+}
 use Rattle.circle.proofs.plan.Statement.{statement}
 use Rattle.circle.proofs.plan.Tie as tie
 
@@ -19,12 +28,15 @@ skip-requires-2 : tie.Need-skip-requires-2
 skip-requires-2 c κs = search needs
 
 returns : tie.Need-returns
-returns c = let scanned = c .before .before in plan-stays (start scanned .pre) (seen scanned) (c .before .if1 .taken) (c .if2 .taken)
+returns c =
+    let scanned = c .before .before in
+    plan-stays (start scanned .pre) (seen scanned) (c .before .if1 .taken) (c .if2 .taken)
 
 returns-2 : tie.Need-returns-2
 returns-2 c =
     let scanned = c .before .before .before in
-    plan-alone (start scanned .pre) (c .before .if2 .left) (seen scanned) (c .before .before .if1 .taken) (c .if3 .taken)
+    plan-alone (start scanned .pre) (c .before .if2 .left) (seen scanned) (c .before .before .if1 .taken)
+    (c .if3 .taken)
 
 returns-3 : tie.Need-returns-3
 returns-3 c =
@@ -47,7 +59,8 @@ returns-4 : tie.Need-returns-4
 returns-4 c =
     let at-rise = c .before .before .before .before in
     let scanned = at-rise .before in
-    plan-dips (start scanned .pre) (at-rise .if1 .left) (seen scanned) (c .before .before .before .if4 .taken) (c .before .if5 .taken) (c .if6 .taken)
+    plan-dips (start scanned .pre) (at-rise .if1 .left) (seen scanned) (c .before .before .before .if4 .taken)
+    (c .before .if5 .taken) (c .if6 .taken)
 
 returns-5 : tie.Need-returns-5
 returns-5 c =
@@ -57,12 +70,14 @@ returns-5 c =
 returns-6 : tie.Need-returns-6
 returns-6 c =
     let at-rise = c .before .before .before in
-    plan-swaps (start (at-rise .before) .pre) (at-rise .if1 .left) (seen (at-rise .before)) (λ _ down. absurd (c .if5 .left down))
+    plan-swaps (start (at-rise .before) .pre) (at-rise .if1 .left) (seen (at-rise .before))
+    (λ _ down. absurd (c .if5 .left down))
 
 returns-7 : tie.Need-returns-7
 returns-7 c =
     let at-rise = c .before in
-    plan-swaps (start (at-rise .before) .pre) (at-rise .if1 .left) (seen (at-rise .before)) (λ inside _. absurd (omega arith))
+    plan-swaps (start (at-rise .before) .pre) (at-rise .if1 .left) (seen (at-rise .before))
+    (λ inside _. absurd (omega arith))
 
 pub plan-spec : {M : Type 1} → statement M
 plan-spec =

@@ -1,5 +1,6 @@
--- `circle::walk` meets its contract. The loop's invariant: after `counter` steps the form reached, and the beats changed so far, which
--- are at most four a step. The measure is what is left of the steps, and each turn takes one. Assumes nothing.
+-- `circle::walk` meets its contract. The loop's invariant: after `counter` steps the form reached, and the
+-- beats changed so far, which are at most four a step. The measure is what is left of the steps, and each turn
+-- takes one. Assumes nothing.
 use mathlib.Core.Path.{_≡_}
 use Prim.Native.Nat.{_+_, _-_, _≤_}
 use native.Mathlib.Omega.{arith}
@@ -19,11 +20,13 @@ loop-holds c = (omega arith, walked-start (c .before .pre .0))
 
 -- one more step
 turn : (c : tie.After-step Inv-loop μ-loop)
-    → Walked (c .before .before .before .before .before .args .beats .now) (c .step .last .0) (c .before .before .before .loop .counter + 1)
+    → Walked (c .before .before .before .before .before .args .beats .now) (c .step .last .0)
+    (c .before .before .before .loop .counter + 1)
     (c .before .before .before .loop .sum + c .step .result)
 turn c =
     let head = c .before .before .before in
-    walked-turn (head .before .before .args .beats .now) (head .loop .beats) (c .step .last .0) (head .loop .counter) (head .loop .sum) (c .step .result)
+    walked-turn (head .before .before .args .beats .now) (head .loop .beats) (c .step .last .0) (head .loop .counter)
+    (head .loop .sum) (c .step .result)
     (head .loop .inv .1) (c .step .kept .0) (c .step .ensures .0) (c .step .ensures .1)
 
 step-requires : tie.Need-step-requires Inv-loop μ-loop

@@ -1,5 +1,5 @@
--- `counts::count` meets its contract: a refusal is the one that `allowed` gave, and the table has the count of an accepted pair.
--- Assumes nothing.
+-- `counts::count` meets its contract: a refusal is the one that `allowed` gave, and the table has the count of an
+-- accepted pair. Assumes nothing.
 use mathlib.Core.Path.{_∙_, ap, sym}
 use borrow.Author.Needs.{needs}
 use Rattle.refusal.specs.declared.Answer.{Answer}
@@ -27,7 +27,8 @@ returns : tie.Need-returns
 returns c =
     let asked = c .before .before .before in
     let args = asked .before .args in
-    ap (λ (v : Verdict). answer v (N (args .t) (args .s))) (sym (c .before .verdict .given .1) ∙ asked .allowed .ensures)
+    ap (λ (v : Verdict). answer v (N (args .t) (args .s)))
+    (sym (c .before .verdict .given .1) ∙ asked .allowed .ensures)
 
 returns-2 : tie.Need-returns-2
 returns-2 c =

@@ -1,4 +1,5 @@
--- `demands::changed` meets its contract: what `circle::changed` answers and leaves is what `Gives` says of the call. Assumes nothing.
+-- `demands::changed` meets its contract: what `circle::changed` answers and leaves is what `Gives` says of
+-- the call. Assumes nothing.
 use mathlib.Core.Path.{refl}
 use borrow.Author.Needs.{needs}
 use Rattle.demands.proofs.Handed.{says}

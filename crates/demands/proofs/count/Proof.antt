@@ -1,4 +1,5 @@
--- `demands::count` meets its contract: what `counts::count` answers and leaves is what `Gives` says of the call. Assumes nothing.
+-- `demands::count` meets its contract: what `counts::count` answers and leaves is what `Gives` says of
+-- the call. Assumes nothing.
 use mathlib.Core.Path.{refl}
 use borrow.Author.Needs.{needs}
 use Rattle.demands.proofs.Handed.{says}

@@ -1,4 +1,5 @@
--- `demands::next` meets its contract: what `circle::next` answers and leaves is what `Gives` says of the call. Assumes nothing.
+-- `demands::next` meets its contract: what `circle::next` answers and leaves is what `Gives` says of
+-- the call. Assumes nothing.
 use borrow.Author.Needs.{needs}
 use Rattle.demands.proofs.Handed.{says, alone}
 use Rattle.demands.proofs.next.Statement.{statement}

@@ -1,4 +1,5 @@
--- `demands::number` meets its contract: what `number::number` answers and leaves is what `Gives` says of the call. Assumes nothing.
+-- `demands::number` meets its contract: what `number::number` answers and leaves is what `Gives` says of
+-- the call. Assumes nothing.
 use mathlib.Core.Path.{refl}
 use borrow.Author.Needs.{needs}
 use Rattle.demands.proofs.Handed.{says}

@@ -1,4 +1,5 @@
--- `demands::read` meets its contract: what `reader::read` answers and leaves is what `Gives` says of the call. Assumes nothing.
+-- `demands::read` meets its contract: what `reader::read` answers and leaves is what `Gives` says of
+-- the call. Assumes nothing.
 use borrow.Author.Needs.{needs}
 use Rattle.demands.proofs.Handed.{tells, behind}
 use Rattle.demands.proofs.read.Statement.{statement}

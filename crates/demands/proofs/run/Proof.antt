@@ -1,4 +1,5 @@
--- `demands::run` meets its contract: what `circle::run` answers and leaves is what `Gives` says of the call. Assumes nothing.
+-- `demands::run` meets its contract: what `circle::run` answers and leaves is what `Gives` says of
+-- the call. Assumes nothing.
 use borrow.Author.Needs.{needs}
 use Rattle.demands.proofs.Handed.{says, alone}
 use Rattle.demands.proofs.run.Statement.{statement}

@@ -1,4 +1,5 @@
--- `demands::run_changed` meets its contract: what `circle::run_changed` answers and leaves is what `Gives` says of the call. Assumes nothing.
+-- `demands::run_changed` meets its contract: what `circle::run_changed` answers and leaves is what `Gives` says of
+-- the call. Assumes nothing.
 use mathlib.Core.Path.{refl}
 use borrow.Author.Needs.{needs}
 use Rattle.demands.proofs.Handed.{says}

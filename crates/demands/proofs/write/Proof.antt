@@ -1,4 +1,5 @@
--- `demands::write` meets its contract: what `record::write` answers and leaves is what `Gives` says of the call. Assumes nothing.
+-- `demands::write` meets its contract: what `record::write` answers and leaves is what `Gives` says of
+-- the call. Assumes nothing.
 use borrow.Author.Needs.{needs}
 use Rattle.demands.proofs.Handed.{says, behind}
 use Rattle.demands.proofs.write.Statement.{statement}

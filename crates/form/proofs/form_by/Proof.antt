@@ -1,5 +1,5 @@
--- `form::form_by` meets its contract: a refusal is that of the number, or 3, and leaves what was lent; else the form is written.
--- Assumes nothing.
+-- `form::form_by` meets its contract: a refusal is that of the number, or 3, and leaves what was lent; else the form is
+-- written. Assumes nothing.
 use mathlib.Core.List.{List}
 use mathlib.Core.Path.{_≡_, _∙_, sym}
 use Prim.Native.Nat.{ℕ, _≤_, _<_}
@@ -57,7 +57,9 @@ returns c =
     refused-left refused (formOf (t told) (s told) (number told)) (out told)
 
 write-requires : tie.Need-write-requires
-write-requires c κs = let told = c .before .before in (start told .pre, within told .0, within told .1, c .before .if1 .left, within told .2)
+write-requires c κs =
+    let told = c .before .before in
+    (start told .pre, within told .0, within told .1, c .before .if1 .left, within told .2)
 
 returns-2 : tie.Need-returns-2
 returns-2 c =

@@ -1,5 +1,5 @@
--- `form::form_on_sheet` meets its contract: a refusal is that of the number, or 12, and leaves the sheet; else the form stands on it
--- from the column on. Assumes nothing.
+-- `form::form_on_sheet` meets its contract: a refusal is that of the number, or 12, and leaves the sheet; else the form
+-- stands on it from the column on. Assumes nothing.
 use mathlib.Core.List.{List}
 use mathlib.Core.Path.{_≡_, _∙_, ap, sym}
 use Prim.Native.Nat.{ℕ, _+_, _≤_, _<_}
@@ -92,7 +92,9 @@ part-write-end : tie.Need-part-write-end
 part-write-end c = search needs
 
 write-requires : tie.Need-write-requires
-write-requires c κs = let told = c .before .before .before .before in (search needs, within told .0, within told .1, search needs, within told .2)
+write-requires c κs =
+    let told = c .before .before .before .before in
+    (search needs, within told .0, within told .1, search needs, within told .2)
 
 returns-3 : tie.Need-returns-3
 returns-3 c =
@@ -114,7 +116,8 @@ returns-4 c =
     let form = wrote .write .last .1 .1 .1 .1 .0 in
     let long : length form ≡ t told + s told =
     ap length (wrote .write .ensures) ∙ form-schedule (within told .1) (number told) .size in
-    let room : column told + t told + s told ≤ length (sheet told) = omega (arith, fits .before .if1 .left, fits .if2 .left) in
+    let room : column told + t told + s told ≤ length (sheet told) =
+    omega (arith, fits .before .if1 .left, fits .if2 .left) in
     let end = column told + (t told + s told) in
     accepted-left
     (sheet-taken (t told) (s told) (number told) (sheet told) (column told) (taken told) room)

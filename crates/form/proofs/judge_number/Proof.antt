@@ -23,7 +23,8 @@ returns : tie.Need-returns
 returns c =
     let called = c .before .before .before in
     let args = called .before .args in
-    sym (number-refused (args .t) (args .s) (args .number) (sym (called .allowed .ensures) ∙ c .before .verdict .given .1))
+    sym (number-refused (args .t) (args .s) (args .number)
+    (sym (called .allowed .ensures) ∙ c .before .verdict .given .1))
 
 -- in the second arm the counts are allowed
 module _ (c : tie.After-enum-told) where
@@ -34,19 +35,23 @@ module _ (c : tie.After-enum-told) where
   fine = sym (c .before .before .allowed .ensures) ∙ c .enum-told .given .1
 
 look-requires : tie.Need-look-requires
-look-requires c κs = let allowed = counts-allowed (start c .args .t) (start c .args .s) (fine c) in (start c .pre, allowed .0, allowed .1)
+look-requires c κs =
+    let allowed = counts-allowed (start c .args .t) (start c .args .s) (fine c) in
+    (start c .pre, allowed .0, allowed .1)
 
 returns-2 : tie.Need-returns-2
 returns-2 c =
     let told = c .before .before in
     let args = start told .args in
-    sym (number-taken (args .t) (args .s) (args .number) (fine told) (omega (arith, c .if1 .taken, c .before .look .ensures)))
+    sym (number-taken (args .t) (args .s) (args .number) (fine told)
+    (omega (arith, c .if1 .taken, c .before .look .ensures)))
 
 returns-3 : tie.Need-returns-3
 returns-3 c =
     let told = c .before .before in
     let args = start told .args in
-    sym (number-beyond (args .t) (args .s) (args .number) (fine told) (omega (arith, c .if1 .left, c .before .look .ensures)))
+    sym (number-beyond (args .t) (args .s) (args .number) (fine told)
+    (omega (arith, c .if1 .left, c .before .look .ensures)))
 
 pub judge-number-spec : {M : Type 1} → statement M
 judge-number-spec =

@@ -1,5 +1,5 @@
--- `form::write` meets its contract: each turn writes one beat more of the form, from the last on, until what is left is ones and then
--- zeros. Assumes nothing.
+-- `form::write` meets its contract: each turn writes one beat more of the form, from the last on, until what is left is
+-- ones and then zeros. Assumes nothing.
 use mathlib.Core.Bool.{not}
 use mathlib.Core.Path.{_≡_, refl, _∙_, ap}
 use Prim.Native.Nat.{ℕ, _-_, _≤_}
@@ -9,12 +9,24 @@ use mir.Val.{boolByte}
 use lib.Dec.{ltb}
 use lib.ListN.{length, length-set}
 use Rattle.triangle.specs.Count.{N}
-use Rattle.form.proofs.Writing.{Behind, behind-none, behind-some, floor-some, floor-within, next-within, less-within, one-within, behind-turn, behind-all}
+use Rattle.form.proofs.Writing.{
+  Behind,
+  behind-none,
+  behind-some,
+  floor-some,
+  floor-within,
+  next-within,
+  less-within,
+  one-within,
+  behind-turn,
+  behind-all,
+}
 use Rattle.form.proofs.write.Statement.{statement}
 use Rattle.form.proofs.write.Tie as tie
 
 abbrev Inv-loop : tie.InvT-loop
-Inv-loop counts t s number out₀ at₀ p₀ all₀ low₀ k₀ out at p all low k = (length out ≡ length out₀) × Behind t s number out at p k all low
+Inv-loop counts t s number out₀ at₀ p₀ all₀ low₀ k₀ out at p all low k =
+    (length out ≡ length out₀) × Behind t s number out at p k all low
 
 abbrev μ-loop : tie.MeasureT-loop
 μ-loop counts t s number out₀ at₀ p₀ all₀ low₀ k₀ out at p all low k = at
@@ -33,8 +45,11 @@ loop-holds c =
     let looked = c .before .before in
     let start = looked .before .before in
     let args = start .args in
-    let pre = start .pre in
-    (refl, behind-none (args .out .now) (pre .1) (pre .2) (pre .3) (pre .4) (looked .look .ensures) (c .before .floor .ensures) (c .listed .ensures))
+    let pre = start .pre in (
+      refl,
+      behind-none (args .out .now) (pre .1) (pre .2) (pre .3) (pre .4) (looked .look .ensures)
+          (c .before .floor .ensures) (c .listed .ensures),
+    )
 
 -- where the loop's test is reached, back to the call
 abbrev entry : tie.At-loop Inv-loop μ-loop → tie.Start Inv-loop μ-loop
@@ -59,7 +74,8 @@ look-requires-2 c κs =
     (entry (c .before) .pre .0, omega (arith, u .small), omega (arith, u .left, u .level, some c))
 
 -- what is looked up at a turn
-next : (c : tie.After-look2 Inv-loop μ-loop) → let here = c .before .before .loop in c .look2 .result ≡ N (here .p - 1) (here .inv .1 .down - 1)
+next : (c : tie.After-look2 Inv-loop μ-loop) → let here = c .before .before .loop in
+    c .look2 .result ≡ N (here .p - 1) (here .inv .1 .down - 1)
 next c =
     let here = c .before .before .loop in
     let u = here .inv .1 in

@@ -26,7 +26,8 @@ before-beats c = c .before .before .before .before
 -- where each part ends, and that out is as long as it was
 past-t : (c : tie.After-field)
     → (c .field .result ≤ 21) × (length (c .field .last .1 .0) ≡ length (before-t c .args .out .now))
-past-t c = (omega (arith, c .field .ensures .end, field-fits (before-t c .args .t) (search needs)), c .field .kept .1 .0)
+past-t c =
+    (omega (arith, c .field .ensures .end, field-fits (before-t c .args .t) (search needs)), c .field .kept .1 .0)
 
 past-s : (c : tie.After-field2) → let start = before-t (before-s c) in
     (c .field2 .result ≤ 42) × (length (c .field2 .last .1 .0) ≡ length (start .args .out .now))

@@ -12,7 +12,8 @@ use Rattle.line.proofs.beat_text.Statement.{statement}
 use Rattle.line.proofs.beat_text.Tie as tie
 
 abbrev Inv-loop : tie.InvT-loop
-Inv-loop beats out₀ at i₀ out i = (i ≤ length beats) × (out ≡ paste out₀ at (glyphs beats) i) × (length out ≡ length out₀)
+Inv-loop beats out₀ at i₀ out i =
+    (i ≤ length beats) × (out ≡ paste out₀ at (glyphs beats) i) × (length out ≡ length out₀)
 
 abbrev μ-loop : tie.MeasureT-loop
 μ-loop beats out₀ at i₀ out i = length beats - i

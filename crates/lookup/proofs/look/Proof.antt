@@ -26,7 +26,8 @@ index-2-result c = search needs
 returns-2 : tie.Need-returns-2
 returns-2 c =
     let start = c .before .before .before in
-    start .pre .0 (start .args .t) (start .args .s) (c .before .if2 .taken) ∙ counted-N (start .args .t) (start .args .s) (start .pre .1)
+    start .pre .0 (start .args .t) (start .args .s) (c .before .if2 .taken)
+    ∙ counted-N (start .args .t) (start .args .s) (start .pre .1)
 
 inside-requires-2 : tie.Need-inside-requires-2
 inside-requires-2 c κs = search needs

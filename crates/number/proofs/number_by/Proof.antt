@@ -1,4 +1,5 @@
--- `number::number_by` meets its contract: a schedule has its number, and what is none has the check's refusal. Assumes nothing.
+-- `number::number_by` meets its contract: a schedule has its number, and what is none has the check's
+-- refusal. Assumes nothing.
 use mathlib.Core.Bool.{Bool, true, false}
 use mathlib.Core.Path.{_≡_, _∙_, ap, sym, subst}
 use borrow.Author.Needs.{needs}
@@ -26,7 +27,8 @@ returns c =
     let args = c .before .before .before .args in
     let right = ranks (c .before) true (c .if1 .taken) in
     ap Answer.Value (right .2)
-    ∙ sym (ap (λ (v : Verdict). answer v (numberOf (args .t) (args .s) (args .beats .now))) (schedule-accepted (args .t) (args .s) (args .beats .now) (right .0) (right .1)))
+    ∙ sym (ap (λ (v : Verdict). answer v (numberOf (args .t) (args .s) (args .beats .now)))
+    (schedule-accepted (args .t) (args .s) (args .beats .now) (right .0) (right .1)))
 
 check-requires : tie.Need-check-requires
 check-requires c κs = search needs
@@ -48,7 +50,8 @@ returns-3 : tie.Need-returns-3
 returns-3 c =
     let called = c .before .before in
     let args = called .before .before .before .before .args in
-    let right = accepted-schedule (args .t) (args .s) (args .beats .now) (sym (called .check .ensures) ∙ c .enum-told .given .1) in
+    let right =
+    accepted-schedule (args .t) (args .s) (args .beats .now) (sym (called .check .ensures) ∙ c .enum-told .given .1) in
     absurd (ranks (called .before .before) false (called .before .if1 .left) (right .0) (right .1))
 
 pub number-by-spec : {M : Type 1} → statement M

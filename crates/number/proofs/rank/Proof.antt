@@ -1,5 +1,5 @@
--- `number::rank` meets its contract: ones and then zeros have number 0; else each turn of the loop counts one beat more, which was
--- tested. Where a test fails, the beats are no schedule of these counts. Assumes nothing.
+-- `number::rank` meets its contract: ones and then zeros have number 0; else each turn of the loop counts one beat
+-- more, which was tested. Where a test fails, the beats are no schedule of these counts. Assumes nothing.
 use mathlib.Core.Bool.{true, true≢false}
 use mathlib.Core.Logic.{_≢_}
 use mathlib.Core.Path.{_≡_, refl, _∙_, ap, ap₂, sym}
@@ -15,7 +15,25 @@ use Rattle.schedule.proofs.Skipping.{Skips, skipped-skips}
 use Rattle.circle.proofs.Stores.{Found}
 use Rattle.number.specs.Ranking.{goesOn}
 use Rattle.number.proofs.Rising.{flat-found, rise-found}
-use Rattle.number.proofs.Counting.{sized-parts, parts-sized, no-rank, ranked, goes-parts, rise-goes, Counted, counted-level, counted-below, counted-down, counted-goes, counted-rise, counted-turn, counted-all, counted-short, flat-all, flat-short}
+use Rattle.number.proofs.Counting.{
+  sized-parts,
+  parts-sized,
+  no-rank,
+  ranked,
+  goes-parts,
+  rise-goes,
+  Counted,
+  counted-level,
+  counted-below,
+  counted-down,
+  counted-goes,
+  counted-rise,
+  counted-turn,
+  counted-all,
+  counted-short,
+  flat-all,
+  flat-short,
+}
 use Rattle.number.proofs.rank.Statement.{statement}
 use Rattle.number.proofs.rank.Tie as tie
 
@@ -37,7 +55,8 @@ returns c =
     let args = asked .before .before .args in
     let small = not-true (asked .sized .result) (c .before .if1 .taken) in
     no-rank (c .unranked .result .number) (c .unranked .ensures)
-    (λ a p. true≢false (sym (parts-sized (args .t) (args .s) (args .beats .now) a (p .size)) ∙ sym (asked .sized .ensures) ∙ small))
+    (λ a p. true≢false
+    (sym (parts-sized (args .t) (args .s) (args .beats .now) a (p .size)) ∙ sym (asked .sized .ensures) ∙ small))
 
 skip-requires : tie.Need-skip-requires Inv-loop μ-loop
 skip-requires c κs = search needs
@@ -56,10 +75,12 @@ module _ (c : tie.After-skip2 Inv-loop μ-loop) where
   abbrev rise : ℕ
   rise = c .skip2 .result
 
-  sizes : Allowed (start .args .t) (start .args .s) × (length (start .args .beats .now) ≡ start .args .t + start .args .s)
+  sizes : Allowed (start .args .t) (start .args .s)
+      × (length (start .args .beats .now) ≡ start .args .t + start .args .s)
   sizes =
       let asked = c .before .before .before in
-      sized-parts (start .args .t) (start .args .s) (start .args .beats .now) (sym (asked .sized .ensures) ∙ not-false (asked .sized .result) (c .before .before .if1 .left))
+      sized-parts (start .args .t) (start .args .s) (start .args .beats .now)
+      (sym (asked .sized .ensures) ∙ not-false (asked .sized .result) (c .before .before .if1 .left))
 
   first : Skips (start .args .beats .now) 0 1 up
   first = skipped-skips (omega arith) (c .before .skip .ensures)
@@ -76,7 +97,9 @@ returns-2 c =
     let args = start scanned .args in
     let found = flat-found (first scanned) (second scanned) (c .if2 .taken) in
     ranked (up scanned) (args .t)
-    (λ all. let right = flat-all found (c .if2 .taken) all (sizes scanned .0 .1) (sizes scanned .1) in (sizes scanned .0, right .0, right .1))
+    (λ all.
+    let right = flat-all found (c .if2 .taken) all (sizes scanned .0 .1) (sizes scanned .1) in
+    (sizes scanned .0, right .0, right .1))
     (λ few p. flat-short found (c .if2 .taken) few p)
 
 shared-slice-read-wide : tie.Need-shared-slice-read-wide Inv-loop μ-loop
@@ -98,8 +121,12 @@ module _ (c : tie.After-fits2 Inv-loop μ-loop) where
   behind : rise scans < length (start scans .args .beats .now)
   behind = omega (arith, second scans .high, c .before .before .before .if2 .left)
 
-  tested : c .fits2 .result ≡ goesOn (start scans .args .t) (up scans) (rise scans - up scans) (getD (start scans .args .beats .now) (rise scans) 0)
-  tested = c .fits2 .ensures ∙ ap (goesOn (start scans .args .t) (up scans) (rise scans - up scans)) (c .before .wide .ensures)
+  tested : c .fits2 .result
+      ≡ goesOn (start scans .args .t) (up scans) (rise scans - up scans)
+      (getD (start scans .args .beats .now) (rise scans) 0)
+  tested =
+      c .fits2 .ensures
+      ∙ ap (goesOn (start scans .args .t) (up scans) (rise scans - up scans)) (c .before .wide .ensures)
 
 unranked-requires-2 : tie.Need-unranked-requires-2 Inv-loop μ-loop
 unranked-requires-2 c κs = search needs
@@ -108,7 +135,10 @@ returns-3 : tie.Need-returns-3 Inv-loop μ-loop
 returns-3 c =
     let met = c .before .before in
     no-rank (c .unranked2 .result .number) (c .unranked2 .ensures)
-    (λ a p. true≢false (sym (rise-goes (first (scans met)) (second (scans met)) (behind met) p) ∙ sym (tested met) ∙ not-true (met .fits2 .result) (c .before .if3 .taken)))
+    (λ a p. true≢false
+    (sym (rise-goes (first (scans met)) (second (scans met)) (behind met) p)
+    ∙ sym (tested met)
+    ∙ not-true (met .fits2 .result) (c .before .if3 .taken)))
 
 -- there is a rise: what is counted up to it
 module _ (c : tie.Else3 Inv-loop μ-loop) where
@@ -121,7 +151,8 @@ module _ (c : tie.Else3 Inv-loop μ-loop) where
   may : let beat = getD (lent .args .beats .now) (rise scanned) 0 in
       (beat ≤ 1) × (up scanned + beat ≤ lent .args .t) × (rise scanned - up scanned < up scanned + beat)
   may =
-      goes-parts (lent .args .t) (up scanned) (rise scanned - up scanned) (getD (lent .args .beats .now) (rise scanned) 0)
+      goes-parts (lent .args .t) (up scanned) (rise scanned - up scanned)
+      (getD (lent .args .beats .now) (rise scanned) 0)
       (sym (tested (c .before)) ∙ not-false (c .before .fits2 .result) (c .if3 .left))
 
   level : rise scanned - up scanned ≤ up scanned
@@ -131,13 +162,18 @@ module _ (c : tie.Else3 Inv-loop μ-loop) where
   found = rise-found (first scanned) (second scanned) (behind (c .before)) (may .0) level
 
   one-more : up scanned + 1 ≤ lent .args .t
-  one-more = omega (arith, may .1, not-zero (getD (lent .args .beats .now) (rise scanned) 0) (second scanned .stop (behind (c .before))))
+  one-more = omega (
+    arith,
+    may .1,
+    not-zero (getD (lent .args .beats .now) (rise scanned) 0) (second scanned .stop (behind (c .before))),
+  )
     where
       not-zero : (n : ℕ) → n ≢ 0 → 1 ≤ n
       not-zero n h = omega arith
 
   risen : (n : ℕ) → n ≡ N (up scanned + 1) (rise scanned - up scanned) - 1
-      → Counted (lent .args .t) (lent .args .beats .now) (rise scanned + 1) (up scanned + 1) (rise scanned - up scanned) n
+      → Counted (lent .args .t) (lent .args .beats .now) (rise scanned + 1) (up scanned + 1) (rise scanned - up scanned)
+      n
   risen n e = counted-rise found (behind (c .before)) level one-more n e
 
 add-ups : tie.Need-add-ups Inv-loop μ-loop
@@ -202,7 +238,10 @@ returns-4 c =
     let turn = here met .loop in
     let goes = ap (goesOn (asked (here met) .args .t) (turn .ups) (turn .downs)) (met .before .wide2 .ensures) in
     no-rank (c .unranked3 .result .number) (c .unranked3 .ensures)
-    (λ a p. true≢false (sym (counted-goes (turn .inv) p (inside met)) ∙ sym (met .fits3 .ensures ∙ goes) ∙ not-true (met .fits3 .result) (c .before .if4 .taken)))
+    (λ a p. true≢false
+    (sym (counted-goes (turn .inv) p (inside met))
+    ∙ sym (met .fits3 .ensures ∙ goes)
+    ∙ not-true (met .fits3 .result) (c .before .if4 .taken)))
 
 -- it passed
 module _ (c : tie.Else4 Inv-loop μ-loop) where
@@ -221,16 +260,19 @@ module _ (c : tie.Else4 Inv-loop μ-loop) where
       omega (arith, may .1, sizes (seen turn) .0 .0)
 
 growth-requires : tie.Need-growth-requires Inv-loop μ-loop
-growth-requires c κs = (asked (turn c) .pre, still-few c, counted-down (turn c .loop .inv), counted-level (turn c .loop .inv), bit c)
+growth-requires c κs =
+    (asked (turn c) .pre, still-few c, counted-down (turn c .loop .inv), counted-level (turn c .loop .inv), bit c)
 
 -- after the growth
 grown : (c : tie.After-growth Inv-loop μ-loop)
     → let turn = turn (c .before) in
     let beat = beat (c .before .before) in
-    Counted (asked turn .args .t) (asked turn .args .beats .now) (turn .loop .at + 1) (turn .loop .ups + beat) (turn .loop .downs + (1 - beat)) (turn .loop .number + c .growth .result)
+    Counted (asked turn .args .t) (asked turn .args .beats .now) (turn .loop .at + 1) (turn .loop .ups + beat)
+    (turn .loop .downs + (1 - beat)) (turn .loop .number + c .growth .result)
 grown c =
     let met = c .before .before in
-    counted-turn (turn (c .before) .loop .inv) (inside met) (beat met) (c .growth .result) (met .before .wide2 .ensures) (goes (c .before)) (c .growth .ensures)
+    counted-turn (turn (c .before) .loop .inv) (inside met) (beat met) (c .growth .result) (met .before .wide2 .ensures)
+    (goes (c .before)) (c .growth .ensures)
 
 add-number : tie.Need-add-number Inv-loop μ-loop
 add-number c =

@@ -32,13 +32,15 @@ module _ (c : tie.After-struct-known) where
   order = c .before .before .reading .given .0 .0
 
   says : Ordered src room (start .pre .1) order
-  says = ordered src room (start .pre .1) order (sym (called .read-by .ensures .0) ∙ c .before .before .reading .given .1)
+  says =
+      ordered src room (start .pre .1) order (sym (called .read-by .ensures .0) ∙ c .before .before .reading .given .1)
 
   long : length (called .read-by .last .1 .1 .0) ≡ mostBeats
   long = called .read-by .kept .1 .1 .0 ∙ start .pre .1
 
   -- the part of the room that is lent on
-  shown : take (order .t + order .s) (called .read-by .last .1 .1 .0) ≡ meant (layoutIn src) (ups src) (downs src) (body src)
+  shown : take (order .t + order .s) (called .read-by .last .1 .1 .0)
+      ≡ meant (layoutIn src) (ups src) (downs src) (body src)
   shown = ap (take (order .t + order .s)) (called .read-by .ensures .1) ∙ says .in-room
 
   few : (order .t ≤ largest) × (order .s ≤ order .t) × (length (called .read-by .last .1 .1 .0) ≡ mostBeats)
@@ -57,13 +59,16 @@ slice-reshare-prefix-accepted : tie.Need-slice-reshare-prefix-accepted
 slice-reshare-prefix-accepted c = omega (arith, few c)
 
 slice-aggregate-accepted : tie.Need-slice-aggregate-accepted
-slice-aggregate-accepted c = let here = c .before in sym (length-take-le (order here .t + order here .s) (called here .read-by .last .1 .1 .0) (omega (arith, few here)))
+slice-aggregate-accepted c =
+    let here = c .before in
+    sym (length-take-le (order here .t + order here .s) (called here .read-by .last .1 .1 .0) (omega (arith, few here)))
 
 accepted-requires : tie.Need-accepted-requires
 accepted-requires c κs =
     let here = c .before .before in
     let wide = start here .pre .2 in
-    let size = length-take-le (order here .t + order here .s) (called here .read-by .last .1 .1 .0) (omega (arith, few here)) in (
+    let size =
+    length-take-le (order here .t + order here .s) (called here .read-by .last .1 .1 .0) (omega (arith, few here)) in (
       omega (arith, wide),
       omega (arith, wide, size, few here),
       subst Beats (sym (shown here)) (says here .schedule .beats),
@@ -88,7 +93,8 @@ returns : tie.Need-returns
 returns c =
     let writing = c .before .before in
     let here = writing .before .before .before in
-    list-accepted (src here) (start here .args .out .now) (room here) (start here .pre .1) (order here) (says here) _ (shown here) (writing .accepted .ensures)
+    list-accepted (src here) (start here .args .out .now) (room here) (start here .pre .1) (order here) (says here) _
+    (shown here) (writing .accepted .ensures)
 
 same-length-3 : tie.Need-same-length-3
 same-length-3 c = search needs
@@ -103,8 +109,11 @@ returns-2 c =
     let known = numbering .before .before in
     let called = known .before .before .before .before in
     let start = called .before .before .before .before .before in
-    let down = turned-down (start .args .src .now) (start .args .room .now) (start .pre .1) _ _ (sym (called .read-by .ensures .0) ∙ known .reading2 .given .1) in
-    list-refused (start .args .src .now) (start .args .out .now) _ (down .0) (down .1) (numbering .number .ensures) (writing .refused .ensures)
+    let down =
+    turned-down (start .args .src .now) (start .args .room .now) (start .pre .1) _ _
+    (sym (called .read-by .ensures .0) ∙ known .reading2 .given .1) in
+    list-refused (start .args .src .now) (start .args .out .now) _ (down .0) (down .1) (numbering .number .ensures)
+    (writing .refused .ensures)
 
 pub list-spec : {M : Type 1} → statement M
 list-spec =

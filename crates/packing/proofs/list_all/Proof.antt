@@ -1,4 +1,5 @@
--- `packing::list_all` meets its contract: the table that it makes has the counts, and its buffers are large enough. Assumes nothing.
+-- `packing::list_all` meets its contract: the table that it makes has the counts, and its buffers are large
+-- enough. Assumes nothing.
 use mathlib.Core.Path.{sym, subst}
 use Rattle.lookup.specs.Lent.{Counts}
 use Rattle.lookup.proofs.Lent.{table-counts}
@@ -29,8 +30,10 @@ slice-aggregate-run-4 c = search needs
 
 run-requires : tie.Need-run-requires
 run-requires c κs =
-    let made = c .before .before .before .before in
-    (subst Counts (sym (made .rows .ensures)) table-counts, record { any-record = search needs; any-beats = search needs })
+    let made = c .before .before .before .before in (
+      subst Counts (sym (made .rows .ensures)) table-counts,
+      record { any-record = search needs; any-beats = search needs },
+    )
 
 returns : tie.Need-returns
 returns c = search needs

@@ -1,5 +1,6 @@
--- `list_window` meets its contract. The loop's invariant is `Going`: the records before `at` are listed, and whatever the rest of the pass
--- lists follows their lines. The measure is the bytes after `at`: every record that is passed over takes some. Assumes nothing.
+-- `list_window` meets its contract. The loop's invariant is `Going`: the records before `at` are listed, and whatever
+-- the rest of the pass lists follows their lines. The measure is the bytes after `at`: every record that is passed over
+-- takes some. Assumes nothing.
 use mathlib.Core.Bool.{Bool, true, false}
 use mathlib.Core.List.{List, [], _∷_}
 use mathlib.Core.Logic.{⊎-elim}
@@ -22,7 +23,8 @@ use Rattle.packing.proofs.list_window.Statement.{statement}
 use Rattle.packing.proofs.list_window.Tie as tie
 
 abbrev Inv-loop : tie.InvT-loop
-Inv-loop counts src ended room₀ text₀ at₀ put₀ room text at put = (length room ≡ length room₀) × Going lineOf widest ended src text₀ at put text
+Inv-loop counts src ended room₀ text₀ at₀ put₀ room text at put =
+    (length room ≡ length room₀) × Going lineOf widest ended src text₀ at put text
 
 abbrev μ-loop : tie.MeasureT-loop
 μ-loop counts src ended room₀ text₀ at₀ put₀ room text at put = length src - at
@@ -83,10 +85,13 @@ module _ (c : tie.After-list Inv-loop μ-loop) where
   fits : put + c .list .result .bytes ≤ length text
   fits = going-fits lineOf widest ended src text going (c .list .ensures) refl same
 
-  ends-here : c .list .result .last ≡ true → Passes lineOf widest ended src text (record { consumed = at; bytes = put + c .list .result .bytes; front = Front.Over }) after
+  ends-here : c .list .result .last ≡ true
+      → Passes lineOf widest ended src text
+      (record { consumed = at; bytes = put + c .list .result .bytes; front = Front.Over }) after
   ends-here = going-last lineOf widest ended src text going (c .list .ensures) refl same at-record wide
 
-  goes-on : c .list .result .last ≡ false → Going lineOf widest ended src text (at + c .list .result .consumed) (put + c .list .result .bytes) after
+  goes-on : c .list .result .last ≡ false
+      → Going lineOf widest ended src text (at + c .list .result .consumed) (put + c .list .result .bytes) after
   goes-on = going-more lineOf widest ended src text going (c .list .ensures) refl same at-record wide
 
   less : c .list .result .last ≡ false → length src - (at + c .list .result .consumed) < length src - at
@@ -120,7 +125,8 @@ returns : tie.Need-returns Inv-loop μ-loop
 returns c =
     let turning = c .before .before .before in
     let start = turning .before .before .before .before in
-    going-rests lineOf widest (start .args .ended) (start .args .src .now) (start .args .text .now) (turning .loop .inv .1) (sym (c .before .at-front .ensures))
+    going-rests lineOf widest (start .args .ended) (start .args .src .now) (start .args .text .now)
+    (turning .loop .inv .1) (sym (c .before .at-front .ensures))
     (λ e. absurd (no-record (c .before .at-front .result) (c .match .keys2) e))
 
 sub-if1 : tie.Need-sub-if1 Inv-loop μ-loop
@@ -137,7 +143,8 @@ returns-2 c =
     let looked = c .before .before .before in
     let turning = looked .before .before in
     let start = turning .before .before .before .before in
-    going-rests lineOf widest (start .args .ended) (start .args .src .now) (start .args .text .now) (turning .loop .inv .1)
+    going-rests lineOf widest (start .args .ended) (start .args .src .now) (start .args .text .now)
+    (turning .loop .inv .1)
     (sym (looked .at-front .ensures) ∙ c .before .enum-told .given .1)
     (λ e. omega (arith, c .if1 .taken, turning .loop .inv .1 .long))
 
@@ -169,7 +176,9 @@ list-requires c κs =
     (start .pre .0, turning .loop .inv .0 ∙ start .pre .1, omega (arith, size, c .before .before .before .if1 .left))
 
 add-t25 : tie.Need-add-t25 Inv-loop μ-loop
-add-t25 c = let listed = c .before .before .before .before .before .before in omega (arith, fits listed, start listed .good)
+add-t25 c =
+    let listed = c .before .before .before .before .before .before in
+    omega (arith, fits listed, start listed .good)
 
 same-length-5 : tie.Need-same-length-5 Inv-loop μ-loop
 same-length-5 c = search needs
@@ -187,7 +196,9 @@ add-at c =
     omega (arith, going .read, start listed .good)
 
 add-put : tie.Need-add-put Inv-loop μ-loop
-add-put c = let listed = c .before .before .before .before .before .before in omega (arith, fits listed, start listed .good)
+add-put c =
+    let listed = c .before .before .before .before .before .before in
+    omega (arith, fits listed, start listed .good)
 
 loop-less : tie.Need-loop-less Inv-loop μ-loop
 loop-less c = less (c .before .before .before .before .before .before) (c .before .if2 .left)

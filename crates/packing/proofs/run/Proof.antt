@@ -1,5 +1,5 @@
--- `run` meets its contract: the buffers keep their sizes, the program stays inside them, and the answer is 0, 1 or 2. The measure is the turns
--- that are left. Assumes nothing.
+-- `run` meets its contract: the buffers keep their sizes, the program stays inside them, and the answer is 0, 1 or 2.
+-- The measure is the turns that are left. Assumes nothing.
 use mathlib.Core.Bool.{Bool, true, false, cond}
 use mathlib.Core.List.{List}
 use mathlib.Core.Path.{_≡_, refl, sym, subst, _∙_}
@@ -26,7 +26,8 @@ fewer-less turns true h = omega arith
 fewer-less turns false h = h
 
 abbrev Inv-loop : tie.InvT-loop
-Inv-loop counts from to input₀ room₀ text₀ state₀ turns₀ input room text state turns = Standing input₀ room₀ text₀ input room text state
+Inv-loop counts from to input₀ room₀ text₀ state₀ turns₀ input room text state turns =
+    Standing input₀ room₀ text₀ input room text state
 
 abbrev μ-loop : tie.MeasureT-loop
 μ-loop counts from to input₀ room₀ text₀ state₀ turns₀ input room text state turns = turns
@@ -35,7 +36,15 @@ start-requires : tie.Need-start-requires Inv-loop μ-loop
 start-requires c κs = search needs
 
 loop-holds : tie.Need-loop-holds Inv-loop μ-loop
-loop-holds c = rw (c .start .ensures) (record { input-kept = refl; room-kept = refl; text-kept = refl; inside = record { unread = omega arith; held = omega arith }; answer = omega arith })
+loop-holds c =
+    rw (c .start .ensures)
+    (record {
+      input-kept = refl;
+      room-kept = refl;
+      text-kept = refl;
+      inside = record { unread = omega arith; held = omega arith };
+      answer = omega arith;
+    })
 
 turn-requires : tie.Need-turn-requires Inv-loop μ-loop
 turn-requires c κs =
@@ -43,7 +52,10 @@ turn-requires c κs =
     let start = turning .before .before .before .before .before in
     let stands = turning .loop .inv in (
       start .pre .0,
-      record { any-record = omega (arith, start .pre .1 .any-record, stands .input-kept); any-beats = stands .room-kept ∙ start .pre .1 .any-beats },
+      record {
+        any-record = omega (arith, start .pre .1 .any-record, stands .input-kept);
+        any-beats = stands .room-kept ∙ start .pre .1 .any-beats;
+      },
       stands .inside,
     )
 
@@ -54,7 +66,8 @@ loop-less : tie.Need-loop-less Inv-loop μ-loop
 loop-less c =
     let turned = c .before .before .before .before .before .before .before in
     let inside = turned .before .before .before .before in
-    subst (λ (n : ℕ). n < inside .before .loop .turns) (sym (c .fewer .ensures)) (fewer-less (inside .before .loop .turns) (turned .turn .result .going) (inside .loop-test .taken))
+    subst (λ (n : ℕ). n < inside .before .loop .turns) (sym (c .fewer .ensures))
+    (fewer-less (inside .before .loop .turns) (turned .turn .result .going) (inside .loop-test .taken))
 
 loop-again : tie.Need-loop-again Inv-loop μ-loop
 loop-again c =

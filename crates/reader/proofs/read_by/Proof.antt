@@ -1,4 +1,5 @@
--- `reader::read_by` meets its contract: the rows before the kind, one at each return, and then the reader of the kind. Assumes nothing.
+-- `reader::read_by` meets its contract: the rows before the kind, one at each return, and then the reader of
+-- the kind. Assumes nothing.
 use mathlib.Core.Bool.{false}
 use mathlib.Core.List.{List}
 use mathlib.Core.Path.{_≡_, refl, _∙_, ap, sym}
@@ -67,24 +68,30 @@ module _ (c : tie.After-of-kind) where
   -- its counts stand inside a record
   inside : {k : Layout} → c .of-kind .result ≡ k → isUnknown k ≡ false → countsAt k ≤ longest
   inside {k} e u =
-      let same : countsAt (layoutOf (c .before .kind .result)) ≡ countsAt k = ap countsAt (sym (c .of-kind .ensures) ∙ e) in
+      let same : countsAt (layoutOf (c .before .kind .result)) ≡ countsAt k =
+      ap countsAt (sym (c .of-kind .ensures) ∙ e) in
       let four = counts-at-four (c .before .kind .result) (ap isUnknown (sym (c .of-kind .ensures) ∙ e) ∙ u) in
       omega (arith, same, four)
 
-  by-kind : (k : Layout) → layoutIn (src first) ≡ k → isUnknown k ≡ false → judge (readRows (length (out first)) (src first)) ≡ judge (kindRows k (src first))
+  by-kind : (k : Layout) → layoutIn (src first) ≡ k → isUnknown k ≡ false
+      → judge (readRows (length (out first)) (src first)) ≡ judge (kindRows k (src first))
   by-kind k e u =
       read-kind (length (out first)) (src first) (roomy first) (uncut (longs .before)) two (ap isUnknown e ∙ u)
       ∙ ap (λ (j : Layout). judge (kindRows j (src first))) e
 
   -- what the reader of the kind did is what reading says
-  answered : (k : Layout) → layoutIn (src first) ≡ k → isUnknown k ≡ false → answerBy k (src first) (judge (kindRows k (src first))) ≡ readAnswer (src first) (out first)
-  answered k e u = ap (answerBy k (src first)) (sym (by-kind k e u)) ∙ ap (λ (j : Layout). answerBy j (src first) (judge (readRows (length (out first)) (src first)))) (sym e)
+  answered : (k : Layout) → layoutIn (src first) ≡ k → isUnknown k ≡ false
+      → answerBy k (src first) (judge (kindRows k (src first))) ≡ readAnswer (src first) (out first)
+  answered k e u =
+      ap (answerBy k (src first)) (sym (by-kind k e u))
+      ∙ ap (λ (j : Layout). answerBy j (src first) (judge (readRows (length (out first)) (src first)))) (sym e)
 
   remains : (k : Layout) → layoutIn (src first) ≡ k → isUnknown k ≡ false
       → leftBy k (src first) (judge (kindRows k (src first))) (out first) ≡ readLeft (src first) (out first)
   remains k e u =
       ap (λ (v : Verdict). leftBy k (src first) v (out first)) (sym (by-kind k e u))
-      ∙ ap (λ (j : Layout). leftBy j (src first) (judge (readRows (length (out first)) (src first))) (out first)) (sym e)
+      ∙ ap (λ (j : Layout). leftBy j (src first) (judge (readRows (length (out first)) (src first))) (out first))
+      (sym e)
 
 returns : tie.Need-returns
 returns c =
@@ -98,7 +105,8 @@ is-cut-requires c κs = search needs
 returns-2 : tie.Need-returns-2
 returns-2 c =
     let here = c .before .before in
-    let refused = read-cut (length (out here)) (src here) (roomy here) (sym (c .before .is-cut .ensures) ∙ c .if2 .taken) in
+    let refused =
+    read-cut (length (out here)) (src here) (roomy here) (sym (c .before .is-cut .ensures) ∙ c .if2 .taken) in
     (told-why refused _ _ _ _ 0 refl, left-refused refused _ (out here))
 
 long-requires : tie.Need-long-requires
@@ -111,8 +119,12 @@ returns-3 : tie.Need-returns-3
 returns-3 c =
     let said = c .before in
     let here = said .before .before .before in
-    let refused = read-tiny (length (out here)) (src here) (roomy here) (uncut (said .before)) (omega (arith, said .long .ensures, c .if3 .taken)) in
-    (told-why refused _ _ _ _ (2 + said .long .result) (ap (λ (j : ℕ). 2 + j) (said .long .ensures)), left-refused refused _ (out here))
+    let refused =
+    read-tiny (length (out here)) (src here) (roomy here) (uncut (said .before))
+    (omega (arith, said .long .ensures, c .if3 .taken)) in (
+      told-why refused _ _ _ _ (2 + said .long .result) (ap (λ (j : ℕ). 2 + j) (said .long .ensures)),
+      left-refused refused _ (out here),
+    )
 
 kind-requires : tie.Need-kind-requires
 kind-requires c κs =
@@ -179,7 +191,8 @@ returns-6 c =
     let here = c .before .before in
     let other = ap isUnknown (laid here (c .enum-told .given .1)) in
     let whole = uncut (longs here .before) in
-    let refused = read-unknown (length (out (first here))) (src (first here)) (roomy (first here)) whole (two here) other in (
+    let refused =
+    read-unknown (length (out (first here))) (src (first here)) (roomy (first here)) whole (two here) other in (
       told-why refused _ _ _ _ (2 + l here) (ap (λ (j : ℕ). 2 + j) (longs here .long .ensures)),
       left-refused refused _ (out (first here)),
     )

@@ -102,7 +102,8 @@ returns-3 c =
     let called = c .before .before in
     let args = called .before .before .before .args in
     let other = ap isUnknown (sym (called .of-kind .ensures) ∙ c .enum-told .given .1) in
-    refused-so (write-unknown (args .kind) (args .t) (args .s) (args .beats .now) (args .out .now) other) _ _ (args .out .now)
+    refused-so (write-unknown (args .kind) (args .t) (args .s) (args .beats .now) (args .out .now) other) _ _
+    (args .out .now)
 
 pub write-spec : {M : Type 1} → statement M
 write-spec =

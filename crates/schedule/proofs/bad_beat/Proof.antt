@@ -1,5 +1,5 @@
--- `schedule::bad_beat` meets its contract. The loop's invariant: all but the last `left` beats are 0 or 1. The measure is `left`, which
--- falls by one a turn. Assumes nothing.
+-- `schedule::bad_beat` meets its contract. The loop's invariant: all but the last `left` beats are 0 or 1. The measure
+-- is `left`, which falls by one a turn. Assumes nothing.
 use native.Mathlib.Omega.{arith}
 use Rattle.schedule.proofs.Scan.{Sound, sound-start, sound-turn, sound-end, sound-stop}
 use Rattle.schedule.proofs.bad_beat.Statement.{statement}
@@ -29,15 +29,18 @@ loop-less c = omega arith
 loop-again : tie.Need-loop-again Inv-loop μ-loop
 loop-again c =
     let turn = c .before .before .before in
-    sound-turn (turn .before .args .beats .now) (turn .loop .left) (turn .loop .inv) (c .before .before .if1 .left) (c .if2 .left)
+    sound-turn (turn .before .args .beats .now) (turn .loop .left) (turn .loop .inv) (c .before .before .if1 .left)
+    (c .if2 .left)
 
 returns : tie.Need-returns Inv-loop μ-loop
-returns c = sound-end (c .before .before .args .beats .now) (c .before .loop .left) (c .before .loop .inv) (c .if1 .taken)
+returns c =
+    sound-end (c .before .before .args .beats .now) (c .before .loop .left) (c .before .loop .inv) (c .if1 .taken)
 
 returns-2 : tie.Need-returns-2 Inv-loop μ-loop
 returns-2 c =
     let turn = c .before .before .before in
-    sound-stop (turn .before .args .beats .now) (turn .loop .left) (turn .loop .inv) (c .before .before .if1 .left) (c .if2 .taken)
+    sound-stop (turn .before .args .beats .now) (turn .loop .left) (turn .loop .inv) (c .before .before .if1 .left)
+    (c .if2 .taken)
 
 pub bad-beat-spec : {M : Type 1} → statement M
 bad-beat-spec =

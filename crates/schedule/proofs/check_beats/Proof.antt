@@ -11,16 +11,28 @@ use Rattle.refusal.specs.declared.Verdict.{Verdict}
 use Rattle.counts.proofs.Sizes.{counts-allowed}
 use Rattle.schedule.specs.Schedule.{ones, zeros}
 use Rattle.schedule.specs.Check.{badBeat, emptyHand}
-use Rattle.schedule.proofs.Rows.{sound-beats, ones-by-hand, wrong-length, bad-beat, empty-hand, wrong-take-ups, accepted}
+use Rattle.schedule.proofs.Rows.{
+  sound-beats,
+  ones-by-hand,
+  wrong-length,
+  bad-beat,
+  empty-hand,
+  wrong-take-ups,
+  accepted,
+}
 use Rattle.schedule.proofs.Tally.{tally}
 use Rattle.schedule.proofs.check_beats.Statement.{statement}
 use Rattle.schedule.proofs.check_beats.Tie as tie
 
 add-if1 : tie.Need-add-if1
-add-if1 c = let few = counts-allowed (c .before .args .t) (c .before .args .s) (c .before .pre) in omega (arith, few .0, few .1)
+add-if1 c =
+    let few = counts-allowed (c .before .args .t) (c .before .args .s) (c .before .pre) in
+    omega (arith, few .0, few .1)
 
 returns : tie.Need-returns
-returns c = let args = c .before .before .args in sym (wrong-length (args .t) (args .s) (args .beats .now) (c .if1 .taken))
+returns c =
+    let args = c .before .before .args in
+    sym (wrong-length (args .t) (args .s) (args .beats .now) (c .if1 .taken))
 
 bad-beat-requires : tie.Need-bad-beat-requires
 bad-beat-requires c κs = search needs
@@ -30,10 +42,13 @@ returns-2 c =
     let called = c .before in
     let args = called .before .before .before .args in
     ap (λ (at : ℕ). Verdict.Refused (BadBeat at)) (called .bad-beat .ensures)
-    ∙ sym (bad-beat (args .t) (args .s) (args .beats .now) (called .before .if1 .left) (omega (arith, called .bad-beat .ensures)))
+    ∙ sym (bad-beat (args .t) (args .s) (args .beats .now) (called .before .if1 .left)
+    (omega (arith, called .bad-beat .ensures)))
 
 -- no beat is bad
-sound : (c : tie.Else2) → length (c .before .before .before .before .args .beats .now) ≤ badBeat (c .before .before .before .before .args .beats .now)
+sound : (c : tie.Else2)
+    → length (c .before .before .before .before .args .beats .now)
+    ≤ badBeat (c .before .before .before .before .args .beats .now)
 sound c = omega (arith, c .before .bad-beat .ensures)
 
 play-requires : tie.Need-play-requires
@@ -45,7 +60,8 @@ returns-3 c =
     let start = called .before .before .before .before .before in
     let args = start .args in
     ap (λ (at : ℕ). Verdict.Refused (EmptyHand at)) (called .play .ensures .0)
-    ∙ sym (empty-hand (args .t) (args .s) (args .beats .now) (called .before .before .before .if1 .left) (sound (called .before)) (omega (arith, called .play .ensures .0)))
+    ∙ sym (empty-hand (args .t) (args .s) (args .beats .now) (called .before .before .before .if1 .left)
+    (sound (called .before)) (omega (arith, called .play .ensures .0)))
 
 -- the play went to the end, and the hand is what is in hand there
 module _ (c : tie.Else3) where
@@ -56,13 +72,18 @@ module _ (c : tie.Else3) where
   ended = omega (arith, c .before .before .play .ensures .0)
 
   in-hand : c .before .before .play .result .hand + zeros (start .args .beats .now) ≡ ones (start .args .beats .now)
-  in-hand = rw (take-all (c .before .before .play .result .at) (start .args .beats .now) (omega arith)) at (c .before .before .play .ensures .1)
+  in-hand =
+      rw (take-all (c .before .before .play .result .at) (start .args .beats .now) (omega arith))
+      at (c .before .before .play .ensures .1)
 
   sized : length (start .args .beats .now) ≡ start .args .t + start .args .s
   sized = c .before .before .before .before .before .if1 .left
 
-  by-hand : (c .before .before .play .result .hand + start .args .s ≡ start .args .t) ↔ (ones (start .args .beats .now) ≡ start .args .t)
-  by-hand = ones-by-hand (start .args .beats .now) (start .args .t) (start .args .s) (c .before .before .play .result .hand) sized (sound (c .before .before .before)) in-hand
+  by-hand : (c .before .before .play .result .hand + start .args .s ≡ start .args .t) ↔
+      (ones (start .args .beats .now) ≡ start .args .t)
+  by-hand =
+      ones-by-hand (start .args .beats .now) (start .args .t) (start .args .s) (c .before .before .play .result .hand)
+      sized (sound (c .before .before .before)) in-hand
 
 add-if4 : tie.Need-add-if4
 add-if4 c =
@@ -74,13 +95,15 @@ returns-4 : tie.Need-returns-4
 returns-4 c =
     let end = c .before in
     let args = start end .args in
-    sym (wrong-take-ups (args .t) (args .s) (args .beats .now) (sized end) (sound (end .before .before .before)) (ended end) (λ o. c .if4 .taken (by-hand end .1 o)))
+    sym (wrong-take-ups (args .t) (args .s) (args .beats .now) (sized end) (sound (end .before .before .before))
+    (ended end) (λ o. c .if4 .taken (by-hand end .1 o)))
 
 returns-5 : tie.Need-returns-5
 returns-5 c =
     let end = c .before in
     let args = start end .args in
-    sym (accepted (args .t) (args .s) (args .beats .now) (sized end) (sound (end .before .before .before)) (ended end) (by-hand end .0 (c .if4 .left)))
+    sym (accepted (args .t) (args .s) (args .beats .now) (sized end) (sound (end .before .before .before)) (ended end)
+    (by-hand end .0 (c .if4 .left)))
 
 pub check-beats-spec : {M : Type 1} → statement M
 check-beats-spec =

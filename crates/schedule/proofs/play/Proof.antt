@@ -1,5 +1,6 @@
--- `schedule::play` meets its contract. The loop's invariant: no beat before `at` sets down with nothing in hand, and `hand` is in hand
--- there. The measure is what is left of the length, and each turn goes on by one beat. Assumes nothing.
+-- `schedule::play` meets its contract. The loop's invariant: no beat before `at` sets down with nothing in
+-- hand, and `hand` is in hand there. The measure is what is left of the length, and each turn goes on by
+-- one beat. Assumes nothing.
 use mathlib.Core.Path.{refl}
 use Prim.Native.Nat.{_-_, _≤_}
 use native.Mathlib.Omega.{arith}
@@ -21,7 +22,8 @@ shared-slice-read-up : tie.Need-shared-slice-read-up Inv-loop μ-loop
 shared-slice-read-up c = omega arith
 
 -- the beat that a turn looks at is 0 or 1
-beat : (c : tie.After-shared-slice-known Inv-loop μ-loop) → getD (c .before .before .before .args .beats .now) (c .before .before .loop .at) 0 ≤ 1
+beat : (c : tie.After-shared-slice-known Inv-loop μ-loop)
+    → getD (c .before .before .before .args .beats .now) (c .before .before .loop .at) 0 ≤ 1
 beat c = let turn = c .before .before in turn .before .pre (turn .loop .at) (omega arith)
 
 cast-up : tie.Need-cast-up Inv-loop μ-loop
@@ -49,17 +51,23 @@ loop-again : tie.Need-loop-again Inv-loop μ-loop
 loop-again c =
     let turn = c .before .before .before in
     let b = turn .before .args .beats .now in
-    play-turn b (turn .loop .at) (turn .loop .hand) (turn .loop .inv) (getD b (turn .loop .at) 0) refl (omega arith) (beat (c .before)) (c .if2 .left)
+    play-turn b (turn .loop .at) (turn .loop .hand) (turn .loop .inv) (getD b (turn .loop .at) 0) refl (omega arith)
+    (beat (c .before)) (c .if2 .left)
 
 returns : tie.Need-returns Inv-loop μ-loop
 returns c =
-    let turn = c .before in
-    (play-end (turn .before .args .beats .now) (turn .loop .at) (turn .loop .hand) (turn .loop .inv) (c .if1 .taken), turn .loop .inv .level)
+    let turn = c .before in (
+      play-end (turn .before .args .beats .now) (turn .loop .at) (turn .loop .hand) (turn .loop .inv) (c .if1 .taken),
+      turn .loop .inv .level,
+    )
 
 returns-2 : tie.Need-returns-2 Inv-loop μ-loop
 returns-2 c =
-    let turn = c .before .before .before in
-    (play-stop (turn .before .args .beats .now) (turn .loop .at) (turn .loop .hand) (turn .loop .inv) (omega arith) (c .if2 .taken), turn .loop .inv .level)
+    let turn = c .before .before .before in (
+      play-stop (turn .before .args .beats .now) (turn .loop .at) (turn .loop .hand) (turn .loop .inv) (omega arith)
+          (c .if2 .taken),
+      turn .loop .inv .level,
+    )
 
 pub play-spec : {M : Type 1} → statement M
 play-spec =

@@ -1,5 +1,5 @@
--- `schedule::skip` meets its contract. The loop's invariant: the beats from `from` up to `at` are the beat that is skipped. The measure is
--- what is left of the length, and each turn goes on by one beat. Assumes nothing.
+-- `schedule::skip` meets its contract. The loop's invariant: the beats from `from` up to `at` are the beat that is
+-- skipped. The measure is what is left of the length, and each turn goes on by one beat. Assumes nothing.
 use Prim.Native.Nat.{_-_}
 use native.Mathlib.Omega.{arith}
 use lib.ListN.{length}
@@ -29,7 +29,8 @@ loop-again : tie.Need-loop-again Inv-loop μ-loop
 loop-again c =
     let turn = c .before .before .before in
     let args = turn .before .args in
-    skip-turn (args .beats .now) (args .from) (args .beat) (turn .loop .at) (turn .loop .inv) (c .before .before .if1 .left) (c .if2 .left)
+    skip-turn (args .beats .now) (args .from) (args .beat) (turn .loop .at) (turn .loop .inv)
+    (c .before .before .if1 .left) (c .if2 .left)
 
 returns : tie.Need-returns Inv-loop μ-loop
 returns c =

@@ -1,4 +1,5 @@
--- `show::beats` is safe and ends. The invariant: the next beat to print is inside, or they are all printed. Assumes nothing.
+-- `show::beats` is safe and ends. The invariant: the next beat to print is inside, or they are all
+-- printed. Assumes nothing.
 use borrow.Author.Needs.{needs}
 use Prim.Native.Nat.{_≤_, _-_}
 use lib.ListN.{length}

@@ -23,12 +23,14 @@ settled-requires c κs = search needs
 returns-3 : tie.Need-returns-3
 returns-3 c =
     let src = c .before .before .before .before .args .window .now in
-    front-record src (sym (c .before .settled .ensures) ∙ c .if3 .taken) ∙ ap (λ (b : Bool). frontOf b src) (sym (c .before .before .if1 .left))
+    front-record src (sym (c .before .settled .ensures) ∙ c .if3 .taken)
+    ∙ ap (λ (b : Bool). frontOf b src) (sym (c .before .before .if1 .left))
 
 returns-4 : tie.Need-returns-4
 returns-4 c =
     let src = c .before .before .before .before .args .window .now in
-    front-short src (sym (c .before .settled .ensures) ∙ c .if3 .left) ∙ ap (λ (b : Bool). frontOf b src) (sym (c .before .before .if1 .left))
+    front-short src (sym (c .before .settled .ensures) ∙ c .if3 .left)
+    ∙ ap (λ (b : Bool). frontOf b src) (sym (c .before .before .if1 .left))
 
 pub at-front-spec : {M : Type 1} → statement M
 at-front-spec = tie.close (tie.spec returns returns-2 settled-requires returns-3 returns-4)

@@ -1,5 +1,6 @@
--- `tree::fill` meets its contract. The loop's invariant: the beats from `at` on are words of trees, whose roots are on the stack and whose
--- links stand in the tables from `row` on. The measure is `at`, and each turn takes one. Assumes nothing.
+-- `tree::fill` meets its contract. The loop's invariant: the beats from `at` on are words of trees, whose
+-- roots are on the stack and whose links stand in the tables from `row` on. The measure is `at`, and each turn
+-- takes one. Assumes nothing.
 use mathlib.Core.List.{List}
 use mathlib.Core.Path.{_≡_, refl, _∙_, sym}
 use Prim.Native.Nat.{ℕ, suc, _+_, _-_, _≤_, _<_}
@@ -8,7 +9,16 @@ use borrow.Author.Needs.{needs}
 use lib.ListN.{length, getD, length-set}
 use Rattle.triangle.specs.Count.{largest}
 use Rattle.schedule.specs.Schedule.{Schedule}
-use Rattle.tree.proofs.Planted.{Planted, planted-start, planted-down, down-room, planted-up, up-room, planted-roots, planted-all}
+use Rattle.tree.proofs.Planted.{
+  Planted,
+  planted-start,
+  planted-down,
+  down-room,
+  planted-up,
+  up-room,
+  planted-roots,
+  planted-all,
+}
 use Rattle.tree.proofs.fill.Statement.{statement}
 use Rattle.tree.proofs.fill.Tie as tie
 
@@ -24,7 +34,8 @@ loop-holds c =
     let start = c .before .before .before .before in
     let args = start .args in (
       refl,
-      planted-start (args .beats .now) _ _ (args .left .now) (args .right .now) (args .parent .now) (omega (arith, start .pre .0)) refl refl (start .pre .1) (start .pre .2),
+      planted-start (args .beats .now) _ _ (args .left .now) (args .right .now) (args .parent .now)
+          (omega (arith, start .pre .0)) refl refl (start .pre .1) (start .pre .2),
     )
 
 sub-at : tie.Need-sub-at Inv-loop μ-loop
@@ -62,7 +73,11 @@ leaf-room : (c : tie.Then1 Inv-loop μ-loop) → c .before .before .before .loop
 leaf-room c =
     let inside = c .before .before in
     let here = inside .before .loop in
-    omega (arith, here .inv .0, down-room (closed inside) (here .inv .1) (before inside) (stepped inside) (c .if1 .taken))
+    omega (
+      arith,
+      here .inv .0,
+      down-room (closed inside) (here .inv .1) (before inside) (stepped inside) (c .if1 .taken),
+    )
 
 array-write-stack : tie.Need-array-write-stack Inv-loop μ-loop
 array-write-stack c = leaf-room c
@@ -97,7 +112,9 @@ module _ (c : tie.Else1 Inv-loop μ-loop) where
 
   sizes : (1 ≤ row) × (2 ≤ depth) × (depth ≤ suc largest)
   sizes =
-      let room = up-room (closed inside) (inside .before .loop .inv .1) (before inside) (stepped inside) (one inside (c .if1 .left)) in
+      let room =
+      up-room (closed inside) (inside .before .loop .inv .1) (before inside) (stepped inside)
+      (one inside (c .if1 .left)) in
       (room .0, room .1, omega (arith, room .2, inside .before .loop .inv .0))
 
   few : (nodes ≤ largest) × (row ≤ nodes)
@@ -122,7 +139,9 @@ plant-requires : tie.Need-plant-requires Inv-loop μ-loop
 plant-requires c κs =
     let up = c .before .before .before in
     let u = inside up .before .loop .inv .1 in
-    let roots = planted-roots u (depth up - 2) (omega (arith, sizes up)) (omega (arith, sizes up, inside up .before .loop .inv .0)) in (
+    let roots =
+    planted-roots u (depth up - 2) (omega (arith, sizes up))
+    (omega (arith, sizes up, inside up .before .loop .inv .0)) in (
       omega (arith, sizes up, few up, u .long-l),
       omega (arith, sizes up, few up, u .long-r),
       omega (arith, sizes up, few up, u .long-p),

@@ -30,7 +30,12 @@ adopt-requires-2 : tie.Need-adopt-requires-2
 adopt-requires-2 c κs =
     let adopted-one = c .before .before .before in
     let start = adopted-one .before .before .before .before .before in
-    omega (arith, start .pre .5, adopted-one .adopt .kept .0, length-set (start .args .parent .now) (start .args .row) 0)
+    omega (
+      arith,
+      start .pre .5,
+      adopted-one .adopt .kept .0,
+      length-set (start .args .parent .now) (start .args .row) 0,
+    )
 
 same-length : tie.Need-same-length
 same-length c = search needs

@@ -1,5 +1,5 @@
--- `tree::tree` meets its contract: a refusal is that of the sizes or of the check, and leaves what was lent; else the tables are filled.
--- Assumes nothing.
+-- `tree::tree` meets its contract: a refusal is that of the sizes or of the check, and leaves what was lent; else the
+-- tables are filled. Assumes nothing.
 use mathlib.Core.List.{List}
 use mathlib.Core.Path.{_≡_, _∙_, sym, subst}
 use Prim.Native.Nat.{ℕ}
@@ -61,13 +61,17 @@ module _ (c : tie.After-enum-told2) where
   sound = sym (checking .check .ensures) ∙ c .enum-told2 .given .1
 
 fill-requires : tie.Need-fill-requires
-fill-requires c κs = let told = c .before .before .before in taken-closed (n told) (beats told) (left told) (right told) (parent told) (fitting told) (sound told)
+fill-requires c κs =
+    let told = c .before .before .before in
+    taken-closed (n told) (beats told) (left told) (right told) (parent told) (fitting told) (sound told)
 
 returns : tie.Need-returns
 returns c =
     let called = c .before .before .before in
     let args = called .before .before .before .before .before .args in
-    kept (tree-unfit (args .n) (args .beats .now) (args .left .now) (args .right .now) (args .parent .now) (sym (called .sized .ensures) ∙ c .before .size .given .1))
+    kept
+    (tree-unfit (args .n) (args .beats .now) (args .left .now) (args .right .now) (args .parent .now)
+    (sym (called .sized .ensures) ∙ c .before .size .given .1))
 
 returns-2 : tie.Need-returns-2
 returns-2 c =
@@ -75,7 +79,10 @@ returns-2 c =
     let called = checking .before .before .before in
     let args = called .before .before .before .before .before .args in
     let fitting = sym (called .sized .ensures) ∙ checking .before .enum-told .given .1 in
-    kept (tree-checked (args .n) (args .beats .now) (args .left .now) (args .right .now) (args .parent .now) fitting ∙ sym (checking .check .ensures) ∙ c .before .verdict .given .1)
+    kept
+    (tree-checked (args .n) (args .beats .now) (args .left .now) (args .right .now) (args .parent .now) fitting
+    ∙ sym (checking .check .ensures)
+    ∙ c .before .verdict .given .1)
 
 same-length : tie.Need-same-length
 same-length c = search needs
@@ -90,9 +97,14 @@ returns-3 : tie.Need-returns-3
 returns-3 c =
     let filling = c .before .before .before .before .before .before in
     let told = filling .before .before .before .before in
-    let long = sizes-right (n told) (length (beats told)) (length (left told)) (length (right told)) (length (parent told)) (fitting told) in
+    let long =
+    sizes-right (n told) (length (beats told)) (length (left told)) (length (right told)) (length (parent told))
+    (fitting told) in
     filled (tree-checked (n told) (beats told) (left told) (right told) (parent told) (fitting told) ∙ sound told)
-    (subst (λ (j : ℕ). Has j (beats told) (filling .fill .last .1 .0) (filling .fill .last .1 .1 .0) (filling .fill .last .1 .1 .1 .0)) (long .2) (filling .fill .ensures))
+    (subst
+    (λ (j : ℕ).
+    Has j (beats told) (filling .fill .last .1 .0) (filling .fill .last .1 .1 .0) (filling .fill .last .1 .1 .1 .0))
+    (long .2) (filling .fill .ensures))
 
 pub tree-spec : {M : Type 1} → statement M
 tree-spec =

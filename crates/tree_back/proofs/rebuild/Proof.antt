@@ -24,10 +24,13 @@ module _ (c : tie.After-slice-known2) where
   abbrev nodes : ℕ
   nodes = length (start .args .left .now)
 
-  sizes : (nodes ≤ largest) × (length out ≡ nodes + nodes) × (length (start .args .right .now) ≡ nodes) × (length (start .args .parent .now) ≡ nodes)
+  sizes : (nodes ≤ largest) × (length out ≡ nodes + nodes) × (length (start .args .right .now) ≡ nodes)
+      × (length (start .args .parent .now) ≡ nodes)
       × (length (start .args .room .now) ≡ nodes + nodes)
   sizes =
-      let right = sizes-right nodes (length out) nodes (length (start .args .right .now)) (length (start .args .parent .now)) (start .pre .0) in
+      let right =
+      sizes-right nodes (length out) nodes (length (start .args .right .now)) (length (start .args .parent .now))
+      (start .pre .0) in
       (right .0, right .1, right .3, right .4, start .pre .1 ∙ right .1)
 
 trace-requires : tie.Need-trace-requires
@@ -52,7 +55,10 @@ returns c =
     let long : length written ≡ length (out known) = tracing .trace .kept .1 .1 .1 .0 ∙ start known .pre .1 in
     let same = copying .copy .ensures .1 ∙ copied written (out known) long in
     found (start known .pre .0)
-    (subst (λ (w : List ℕ). Has (nodes known) w (start known .args .left .now) (start known .args .right .now) (start known .args .parent .now)) (sym same)
+    (subst
+    (λ (w : List ℕ).
+    Has (nodes known) w (start known .args .left .now) (start known .args .right .now) (start known .args .parent .now))
+    (sym same)
     (traced-whole (tracing .trace .ensures) (test .if1 .taken)))
 
 same-length-3 : tie.Need-same-length-3

@@ -1,5 +1,5 @@
--- `tree_back::schedule_of_tree` meets its contract: a refusal by size leaves what was lent; else the way back is made in the room of its own.
--- Assumes nothing.
+-- `tree_back::schedule_of_tree` meets its contract: a refusal by size leaves what was lent; else the way back is made
+-- in the room of its own. Assumes nothing.
 use mathlib.Core.List.{List}
 use mathlib.Core.Path.{_≡_, _∙_, sym, subst}
 use Prim.Native.Nat.{ℕ, _+_, _≤_}
@@ -27,11 +27,15 @@ module _ (c : tie.After-enum-told) where
   abbrev out : List ℕ
   out = start .args .out .now
 
-  fitting : judge (lentRows n out (start .args .left .now) (start .args .right .now) (start .args .parent .now)) ≡ Verdict.Accepted
+  fitting : judge (lentRows n out (start .args .left .now) (start .args .right .now) (start .args .parent .now))
+      ≡ Verdict.Accepted
   fitting = sym (c .before .before .sized .ensures) ∙ c .enum-told .given .1
 
-  sizes : (n ≤ largest) × (length out ≡ n + n) × (length (start .args .left .now) ≡ n) × (length (start .args .right .now) ≡ n) × (length (start .args .parent .now) ≡ n)
-  sizes = sizes-right n (length out) (length (start .args .left .now)) (length (start .args .right .now)) (length (start .args .parent .now)) fitting
+  sizes : (n ≤ largest) × (length out ≡ n + n) × (length (start .args .left .now) ≡ n)
+      × (length (start .args .right .now) ≡ n) × (length (start .args .parent .now) ≡ n)
+  sizes =
+      sizes-right n (length out) (length (start .args .left .now)) (length (start .args .right .now))
+      (length (start .args .parent .now)) fitting
 
 sized-requires : tie.Need-sized-requires
 sized-requires c κs = search needs
@@ -52,7 +56,10 @@ rebuild-requires : tie.Need-rebuild-requires
 rebuild-requires c κs =
     let told = c .before .before in
     let args = start told .args in (
-      subst (λ (j : ℕ). judge (lentRows j (out told) (args .left .now) (args .right .now) (args .parent .now)) ≡ Verdict.Accepted) (sym (sizes told .2)) (fitting told),
+      subst
+          (λ (j : ℕ).
+          judge (lentRows j (out told) (args .left .now) (args .right .now) (args .parent .now)) ≡ Verdict.Accepted)
+          (sym (sizes told .2)) (fitting told),
       length-take-le (length (out told)) _ (omega (arith, sizes told)),
     )
 
@@ -69,7 +76,9 @@ returns-2 c =
     let rebuilding = c .before .before .before in
     let told = rebuilding .before .before .before in
     let args = start told .args in
-    subst (λ (j : ℕ). Untreed j (args .left .now) (args .right .now) (args .parent .now) (out told) (rebuilding .rebuild .result) (rebuilding .rebuild .last .1 .1 .1 .1 .0))
+    subst
+    (λ (j : ℕ). Untreed j (args .left .now) (args .right .now) (args .parent .now) (out told)
+    (rebuilding .rebuild .result) (rebuilding .rebuild .last .1 .1 .1 .1 .0))
     (sizes told .2) (rebuilding .rebuild .ensures)
 
 pub schedule-of-tree-spec : {M : Type 1} → statement M

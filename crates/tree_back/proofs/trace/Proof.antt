@@ -1,5 +1,6 @@
--- `tree_back::trace` meets its contract. The loop's invariant: the beats so far begin the word of every tree that the tables have, and with what
--- is still to be read they make one. The measure is the beats still to write, and each turn writes one. Assumes nothing.
+-- `tree_back::trace` meets its contract. The loop's invariant: the beats so far begin the word of every tree that the
+-- tables have, and with what is still to be read they make one. The measure is the beats still to write, and each turn
+-- writes one. Assumes nothing.
 use mathlib.Core.Path.{_≡_, refl, _∙_, sym}
 use Prim.Native.Nat.{ℕ, suc, _+_, _-_, _≤_, _<_}
 use native.Mathlib.Omega.{arith}
@@ -8,7 +9,17 @@ use borrow.Author.Tests.{not-true, not-false}
 use lib.ListN.{length, getD, length-set}
 use Rattle.triangle.specs.Count.{largest}
 use Rattle.tree_back.specs.Tracing.{broken}
-use Rattle.tree_back.proofs.Tracing.{Traced-to, trace-start, trace-leaf, trace-node, trace-stuck, trace-other, trace-end, next-so, next-not}
+use Rattle.tree_back.proofs.Tracing.{
+  Traced-to,
+  trace-start,
+  trace-leaf,
+  trace-node,
+  trace-stuck,
+  trace-other,
+  trace-end,
+  next-so,
+  next-not,
+}
 use Rattle.tree_back.proofs.trace.Statement.{statement}
 use Rattle.tree_back.proofs.trace.Tie as tie
 
@@ -17,7 +28,8 @@ Inv-loop left right parent beats₀ stack₀ depth₀ row₀ own₀ child₀ at�
     (length stack ≡ suc largest) × Traced-to (length left) left right parent at row own child depth stack beats
 
 abbrev μ-loop : tie.MeasureT-loop
-μ-loop left right parent beats₀ stack₀ depth₀ row₀ own₀ child₀ at₀ beats stack depth row own child at = length beats₀ - at
+μ-loop left right parent beats₀ stack₀ depth₀ row₀ own₀ child₀ at₀ beats stack depth row own child at =
+    length beats₀ - at
 
 root-requires : tie.Need-root-requires Inv-loop μ-loop
 root-requires c κs = search needs
@@ -28,7 +40,8 @@ loop-holds c =
     let args = start .args in (
       refl,
       rw (c .root .ensures)
-          (trace-start (length (args .left .now)) (args .left .now) (args .right .now) (args .parent .now) _ (args .beats .now) (start .pre .3) (omega (arith, start .pre .0))),
+          (trace-start (length (args .left .now)) (args .left .now) (args .right .now) (args .parent .now) _
+          (args .beats .now) (start .pre .3) (omega (arith, start .pre .0))),
     )
 
 add-at : tie.Need-add-at Inv-loop μ-loop
@@ -45,14 +58,17 @@ module _ (c : tie.In-loop Inv-loop μ-loop) where
   unfinished : c .before .loop .at < nodes + nodes
   unfinished = omega (arith, c .before .loop .inv .1 .long, c .loop-test .taken)
 
-  falls : length (start .args .beats .now) - (c .before .loop .at + 1) < length (start .args .beats .now) - c .before .loop .at
+  falls : length (start .args .beats .now) - (c .before .loop .at + 1)
+      < length (start .args .beats .now) - c .before .loop .at
   falls = omega (arith, unfinished, start .pre .3)
 
 same-length : tie.Need-same-length Inv-loop μ-loop
 same-length c = let inside = c .before .before in inside .before .loop .inv .1 .long ∙ sym (start inside .pre .3)
 
 returns : tie.Need-returns Inv-loop μ-loop
-returns c = let inside = c .before .before in broken (trace-stuck (inside .before .loop .inv .1) (c .before .if1 .taken) (c .if2 .taken) (unfinished inside))
+returns c =
+    let inside = c .before .before in
+    broken (trace-stuck (inside .before .loop .inv .1) (c .before .if1 .taken) (c .if2 .taken) (unfinished inside))
 
 -- a leaf, and a node waits
 module _ (c : tie.Else2 Inv-loop μ-loop) where
@@ -123,7 +139,8 @@ module _ (c : tie.Else3 Inv-loop μ-loop) where
   abbrev turn : tie.In-loop Inv-loop μ-loop
   turn = c .before .before .before
 
-  is-next : (turn .before .loop .row < nodes turn) × (turn .before .loop .child ≡ suc (turn .before .loop .row)) × (getD (start turn .args .parent .now) (turn .before .loop .row) 0 ≡ turn .before .loop .own)
+  is-next : (turn .before .loop .row < nodes turn) × (turn .before .loop .child ≡ suc (turn .before .loop .row))
+      × (getD (start turn .args .parent .now) (turn .before .loop .row) 0 ≡ turn .before .loop .own)
   is-next =
       let here = turn .before .loop in
       next-so (nodes turn) (start turn .args .parent .now) (here .row) (here .child) (here .own) (start turn .pre .2)
@@ -155,16 +172,20 @@ loop-less-2 c = falls (turn (c .before))
 loop-again-2 : tie.Need-loop-again-2 Inv-loop μ-loop
 loop-again-2 c =
     let next = c .before in
-    let here = turn next .before .loop in
-    (length-set (here .stack) (here .depth) (here .child) ∙ here .inv .0, trace-node (here .inv .1) (unfinished (turn next)) (is-next next))
+    let here = turn next .before .loop in (
+      length-set (here .stack) (here .depth) (here .child) ∙ here .inv .0,
+      trace-node (here .inv .1) (unfinished (turn next)) (is-next next),
+    )
 
 same-length-3 : tie.Need-same-length-3 Inv-loop μ-loop
-same-length-3 c = c .before .loop .inv .1 .long ∙ sym (c .before .before .before .before .before .before .before .pre .3)
+same-length-3 c =
+    c .before .loop .inv .1 .long ∙ sym (c .before .before .before .before .before .before .before .pre .3)
 
 returns-3 : tie.Need-returns-3 Inv-loop μ-loop
 returns-3 c =
     let start = c .before .before .before .before .before .before .before in
-    trace-end (c .before .loop .inv .1) (omega (arith, c .loop-test .left, c .before .loop .inv .1 .long)) refl (start .pre .1) (start .pre .2)
+    trace-end (c .before .loop .inv .1) (omega (arith, c .loop-test .left, c .before .loop .inv .1 .long)) refl
+    (start .pre .1) (start .pre .2)
 
 pub trace-spec : {M : Type 1} → statement M
 trace-spec =

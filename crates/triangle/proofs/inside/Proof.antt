@@ -12,7 +12,8 @@ inside-requires c κs = search needs
 returns : tie.Need-returns
 returns c =
     let start = c .before in
-    c .inside .ensures ∙ at-N (start .args .t) (start .args .s) (start .pre .0) (omega (arith, start .pre .0, start .pre .1))
+    c .inside .ensures
+    ∙ at-N (start .args .t) (start .args .s) (start .pre .0) (omega (arith, start .pre .0, start .pre .1))
 
 pub inside-spec : {M : Type 1} → statement M
 inside-spec = tie.close (tie.spec inside-requires returns)

@@ -67,10 +67,12 @@ add-unpacked : tie.Need-add-unpacked
 add-unpacked c = omega (arith, start (c .before .before .before .before .before) .pre .1)
 
 sub-unpacked : tie.Need-sub-unpacked
-sub-unpacked c = omega (arith, reaches (c .before .before .before .before), whole (c .before .before .before .before .before))
+sub-unpacked c =
+    omega (arith, reaches (c .before .before .before .before), whole (c .before .before .before .before .before))
 
 part-unpacked-start : tie.Need-part-unpacked-start
-part-unpacked-start c = omega (arith, reaches (c .before .before .before .before), whole (c .before .before .before .before .before))
+part-unpacked-start c =
+    omega (arith, reaches (c .before .before .before .before), whole (c .before .before .before .before .before))
 
 part-unpacked-end : tie.Need-part-unpacked-end
 part-unpacked-end c = omega (arith, whole (c .before .before .before .before .before))
@@ -91,13 +93,16 @@ returns-2 c =
     let test = first .before .before in
     let known = test .before in
     let from = at test + 2 in
-    let size : 2 + start known .args .long - from ≡ long (src known) - at test = omega (arith, whole known, reaches test) in
+    let size : 2 + start known .args .long - from ≡ long (src known) - at test =
+    omega (arith, whole known, reaches test) in
     let packed = ap (λ (j : ℕ). take j (drop from (src known))) size in
     let ups = first .wide .ensures in
     let downs = second .wide2 .ensures in
     let out = start known .args .out .now in (
-      beaten-answer (at test) (src known) ups downs packed (whole known .0) (reaches test .0) (unpacking .unpacked .ensures .0),
-      beaten-left (at test) (src known) ups downs packed (whole known .0) (reaches test .0) out (unpacking .unpacked .ensures .1),
+      beaten-answer (at test) (src known) ups downs packed (whole known .0) (reaches test .0)
+          (unpacking .unpacked .ensures .0),
+      beaten-left (at test) (src known) ups downs packed (whole known .0) (reaches test .0) out
+          (unpacking .unpacked .ensures .1),
     )
 
 pub beaten-spec : {M : Type 1} → statement M

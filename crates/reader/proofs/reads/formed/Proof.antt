@@ -1,5 +1,5 @@
--- `reads::formed` meets its contract: a refusal is that of the counts or of the number, and leaves what was lent; else the form is in its
--- place. Assumes nothing.
+-- `reads::formed` meets its contract: a refusal is that of the counts or of the number, and leaves what was lent; else
+-- the form is in its place. Assumes nothing.
 use mathlib.Core.List.{List, _++_}
 use mathlib.Core.Path.{_≡_, _∙_, ap, sym}
 use Prim.Native.Nat.{ℕ, _+_, _≤_}
@@ -89,8 +89,10 @@ returns c =
     let called = c .before .before .before in
     let args = called .before .before .args in
     let told = sym (called .allowed .ensures) ∙ c .before .allowed2 .given .1 in
-    let refused = number-refused (args .t) (args .s) (args .number) told in
-    (told-refused refused (late-counts (args .t) (args .s) told) (args .t) (args .s) (args .number) (args .long), left-refused refused _ (args .out .now))
+    let refused = number-refused (args .t) (args .s) (args .number) told in (
+      told-refused refused (late-counts (args .t) (args .s) told) (args .t) (args .s) (args .number) (args .long),
+      left-refused refused _ (args .out .now),
+    )
 
 same-length : tie.Need-same-length
 same-length c = search needs
@@ -101,11 +103,13 @@ module _ (c : tie.After-form-by) where
   told = c .before .before
 
   placed : c .form-by .last .1 .1 .1 .1 .0 ++ drop (t told + s told) (out told)
-      ≡ left (judge (numberRows (t told) (s told) (number told))) (formOf (t told) (s told) (number told) ++ drop (t told + s told) (out told)) (out told)
+      ≡ left (judge (numberRows (t told) (s told) (number told)))
+      (formOf (t told) (s told) (number told) ++ drop (t told + s told) (out told)) (out told)
   placed =
       let n = t told + s told in
       let form = formOf (t told) (s told) (number told) in
-      ap (λ (w : List ℕ). w ++ drop n (out told)) (c .form-by .ensures .1 ∙ ap (λ (v : Verdict). left v form (take n (out told))) (verdict told))
+      ap (λ (w : List ℕ). w ++ drop n (out told))
+      (c .form-by .ensures .1 ∙ ap (λ (v : Verdict). left v form (take n (out told))) (verdict told))
       ∙ left-part (judge (numberRows (t told) (s told) (number told))) n form (out told)
 
 returns-2 : tie.Need-returns-2
@@ -113,7 +117,8 @@ returns-2 c =
     let forming = c .before .before .before .before .before in
     let told = forming .before .before in
     let refused = sym (verdict told) ∙ sym (forming .form-by .ensures .0) ∙ c .before .verdict .given .1 in (
-      told-refused refused (late-number (t told) (s told) (number told) refused) (t told) (s told) (number told) (start told .args .long),
+      told-refused refused (late-number (t told) (s told) (number told) refused) (t told) (s told) (number told)
+          (start told .args .long),
       placed forming,
     )
 

@@ -16,13 +16,20 @@ long-requires : tie.Need-long-requires
 long-requires c κs = search needs
 
 returns-2 : tie.Need-returns-2
-returns-2 c = let start = c .before .before .before .before in cut-above (start .args .src .now) (omega (arith, c .before .before .if1 .left)) (omega (arith, c .before .long .ensures, c .if2 .taken))
+returns-2 c =
+    let start = c .before .before .before .before in
+    cut-above (start .args .src .now) (omega (arith, c .before .before .if1 .left))
+    (omega (arith, c .before .long .ensures, c .if2 .taken))
 
 add-result : tie.Need-add-result
 add-result c = search needs
 
 returns-3 : tie.Need-returns-3
-returns-3 c = let start = c .before .before .before .before in ap (λ (l : ℕ). ltb (length (start .args .src .now)) (2 + l)) (c .before .long .ensures) ∙ cut-rest (start .args .src .now) (omega (arith, c .before .before .if1 .left)) (omega (arith, c .before .long .ensures, c .if2 .left))
+returns-3 c =
+    let start = c .before .before .before .before in
+    ap (λ (l : ℕ). ltb (length (start .args .src .now)) (2 + l)) (c .before .long .ensures)
+    ∙ cut-rest (start .args .src .now) (omega (arith, c .before .before .if1 .left))
+    (omega (arith, c .before .long .ensures, c .if2 .left))
 
 pub is-cut-spec : {M : Type 1} → statement M
 is-cut-spec = tie.close (tie.spec returns long-requires returns-2 add-result returns-3)

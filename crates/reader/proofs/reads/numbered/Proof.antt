@@ -73,7 +73,10 @@ value-requires c κs =
     let known = c .before .before in
     let from = at (c .before) + 2 in
     let part = drop from (src known) in
-    omega (arith, length-take-le (from + 8 - from) part (omega (arith, length-drop from (src known), reaches (c .before))))
+    omega (
+      arith,
+      length-take-le (from + 8 - from) part (omega (arith, length-drop from (src known), reaches (c .before))),
+    )
 
 shared-slice-read-wide : tie.Need-shared-slice-read-wide
 shared-slice-read-wide c = omega (arith, reaches (c .before .before .before))
@@ -112,8 +115,10 @@ returns-2 c =
     let ups = first .wide .ensures in
     let downs = second .wide2 .ensures in
     let out = start known .args .out .now in (
-      numbered-answer (at test) (src known) ups downs number (whole known .0) (exact test) (forming .formed .ensures .0),
-      numbered-left (at test) (src known) ups downs number (whole known .0) (exact test) out (forming .formed .ensures .1),
+      numbered-answer (at test) (src known) ups downs number (whole known .0) (exact test)
+          (forming .formed .ensures .0),
+      numbered-left (at test) (src known) ups downs number (whole known .0) (exact test) out
+          (forming .formed .ensures .1),
     )
 
 pub numbered-spec : {M : Type 1} → statement M

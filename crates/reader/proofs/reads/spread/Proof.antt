@@ -1,5 +1,5 @@
--- `reads::spread` meets its contract: a refusal is that of the unused bits or of the beats, and leaves what was lent; else the beats are
--- copied. Assumes nothing.
+-- `reads::spread` meets its contract: a refusal is that of the unused bits or of the beats, and leaves what was lent;
+-- else the beats are copied. Assumes nothing.
 use mathlib.Core.Bool.{true}
 use mathlib.Core.List.{List}
 use mathlib.Core.Path.{_≡_, refl, _∙_, ap, sym}
@@ -19,7 +19,15 @@ use Rattle.record.specs.Bytes.{unpacked, unused}
 use Rattle.record.specs.Record.{packedRows}
 use Rattle.record.proofs.Packing.{length-tabulate}
 use Rattle.reader.specs.Answers.{told}
-use Rattle.reader.proofs.Verdicts.{late-check, told-refused, told-accepted, hand-checked, spoiled-bits, spoiled-not, unpacked-beats}
+use Rattle.reader.proofs.Verdicts.{
+  late-check,
+  told-refused,
+  told-accepted,
+  hand-checked,
+  spoiled-bits,
+  spoiled-not,
+  unpacked-beats,
+}
 use borrow.Author.Needs.{needs}
 use Rattle.reader.proofs.reads.spread.Statement.{statement}
 use Rattle.reader.proofs.reads.spread.Tie as tie
@@ -72,7 +80,9 @@ same-length c = search needs
 returns : tie.Need-returns
 returns c =
     let made = c .before .before .before in
-    let refused = spoiled-bits (t made) (s made) (packed made) (start made .pre .3) (sym (result-is made) ∙ not-true (made .unpack .result) (c .if1 .taken)) in
+    let refused =
+    spoiled-bits (t made) (s made) (packed made) (start made .pre .3)
+    (sym (result-is made) ∙ not-true (made .unpack .result) (c .if1 .taken)) in
     (told-refused refused (λ l. refl) (t made) (s made) _ (long made), left-refused refused _ (out made))
 
 -- the beats are numbered
@@ -87,7 +97,9 @@ module _ (c : tie.After-number-by) where
   taken = verdict made (sym (result-is made) ∙ not-false (made .unpack .result) (c .before .before .if1 .left))
 
   numbered : c .number-by .result ≡ answer (checked (t made) (s made) beats) (numberOf (t made) (s made) beats)
-  numbered = c .number-by .ensures ∙ ap (λ (b : List ℕ). answer (checked (t made) (s made) b) (numberOf (t made) (s made) b)) (written-is made)
+  numbered =
+      c .number-by .ensures
+      ∙ ap (λ (b : List ℕ). answer (checked (t made) (s made) b) (numberOf (t made) (s made) b)) (written-is made)
 
 number-by-requires : tie.Need-number-by-requires
 number-by-requires c κs = start (c .before .before .before .before) .pre .0
@@ -114,9 +126,13 @@ returns-2 : tie.Need-returns-2
 returns-2 c =
     let called = c .before .before .before in
     let here = made called in
-    let why = answer-refused (checked (t here) (s here) (beats called)) (numberOf (t here) (s here) (beats called)) (sym (numbered called) ∙ c .before .numbered .given .1) in
-    let refused = taken called ∙ why in
-    (told-refused refused (late-check (t here) (s here) (beats called) why) (t here) (s here) _ (long here), left-refused refused _ (out here))
+    let why =
+    answer-refused (checked (t here) (s here) (beats called)) (numberOf (t here) (s here) (beats called))
+    (sym (numbered called) ∙ c .before .numbered .given .1) in
+    let refused = taken called ∙ why in (
+      told-refused refused (late-check (t here) (s here) (beats called) why) (t here) (s here) _ (long here),
+      left-refused refused _ (out here),
+    )
 
 same-length-3 : tie.Need-same-length-3
 same-length-3 c = search needs
@@ -129,11 +145,18 @@ returns-3 c =
     let copying = c .before .before in
     let called = copying .before .before .before .before .before .before in
     let here = made called in
-    let value = answer-value (checked (t here) (s here) (beats called)) (numberOf (t here) (s here) (beats called)) (sym (numbered called) ∙ copying .before .before .before .before .numbered2 .given .1) in
+    let value =
+    answer-value (checked (t here) (s here) (beats called)) (numberOf (t here) (s here) (beats called))
+    (sym (numbered called) ∙ copying .before .before .before .before .numbered2 .given .1) in
     let accepted = taken called ∙ value .0 in
-    let long-room : length (written here) ≡ length (out here) = ap length (written-is here) ∙ length-tabulate (t here + s here) _ ∙ sym (start here .pre .5) in (
-      ap (λ (m : ℕ). told (t here) (s here) m (long here) Verdict.Accepted) (value .1) ∙ told-accepted accepted (t here) (s here) _ (long here),
-      copying .copy .ensures .1 ∙ copied (written here) (out here) long-room ∙ written-is here ∙ left-accepted accepted _ (out here),
+    let long-room : length (written here) ≡ length (out here) =
+    ap length (written-is here) ∙ length-tabulate (t here + s here) _ ∙ sym (start here .pre .5) in (
+      ap (λ (m : ℕ). told (t here) (s here) m (long here) Verdict.Accepted) (value .1)
+          ∙ told-accepted accepted (t here) (s here) _ (long here),
+      copying .copy .ensures .1
+          ∙ copied (written here) (out here) long-room
+          ∙ written-is here
+          ∙ left-accepted accepted _ (out here),
     )
 
 pub spread-spec : {M : Type 1} → statement M

@@ -1,5 +1,5 @@
--- `reads::unpacked` meets its contract: a refusal is that of the counts, of L or of the beats, and leaves what was lent; else the beats are in
--- their place. Assumes nothing.
+-- `reads::unpacked` meets its contract: a refusal is that of the counts, of L or of the beats, and leaves what was
+-- lent; else the beats are in their place. Assumes nothing.
 use mathlib.Core.List.{List, _++_}
 use mathlib.Core.Path.{_≡_, refl, _∙_, ap, sym}
 use Prim.Native.Nat.{ℕ, _+_, _≤_}
@@ -76,7 +76,9 @@ add-t18 c = search needs
 returns : tie.Need-returns
 returns c =
     let here = c .before .before in
-    let other = spoiled-long (t here) (s here) (packed here) (λ e. omega (arith, e, c .before .bytes-for .ensures, c .if1 .taken)) in
+    let other =
+    spoiled-long (t here) (s here) (packed here)
+    (λ e. omega (arith, e, c .before .bytes-for .ensures, c .if1 .taken)) in
     let refused = verdict here ∙ other in
     (told-refused refused (λ l. refl) (t here) (s here) _ (long here), left-refused refused _ (out here))
 
@@ -84,19 +86,24 @@ array-borrow-prefix-room : tie.Need-array-borrow-prefix-room
 array-borrow-prefix-room c = omega (arith, few (c .before .before))
 
 slice-aggregate-spread : tie.Need-slice-aggregate-spread
-slice-aggregate-spread c = let here = c .before .before .before in sym (length-take-le (t here + s here) _ (omega (arith, few here)))
+slice-aggregate-spread c =
+    let here = c .before .before .before in
+    sym (length-take-le (t here + s here) _ (omega (arith, few here)))
 
 slice-relend-prefix-spread : tie.Need-slice-relend-prefix-spread
 slice-relend-prefix-spread c = omega (arith, few (c .before .before .before))
 
 slice-aggregate-spread-2 : tie.Need-slice-aggregate-spread-2
-slice-aggregate-spread-2 c = let here = c .before .before .before .before in sym (length-take-le (t here + s here) (out here) (omega (arith, few here)))
+slice-aggregate-spread-2 c =
+    let here = c .before .before .before .before in
+    sym (length-take-le (t here + s here) (out here) (omega (arith, few here)))
 
 spread-requires : tie.Need-spread-requires
 spread-requires c κs =
     let test = c .before .before in
     let here = test .before .before in
-    let exact : length (packed here) ≡ bytesFor (t here + s here) = omega (arith, test .before .bytes-for .ensures, test .if1 .left) in (
+    let exact : length (packed here) ≡ bytesFor (t here + s here) =
+    omega (arith, test .before .bytes-for .ensures, test .if1 .left) in (
       start here .pre .0,
       (few here .0, few here .1),
       start here .pre .1,
@@ -110,8 +117,11 @@ returns-2 c =
     let called = c .before .before .before in
     let args = called .before .before .before .args in
     let why = sym (called .allowed .ensures) ∙ c .before .allowed2 .given .1 in
-    let refused = judge-refused (countRows (args .t) (args .s)) (packedRows (args .t) (args .s) (args .packed .now)) _ why in
-    (told-refused refused (late-counts (args .t) (args .s) why) (args .t) (args .s) _ (args .long), left-refused refused _ (args .out .now))
+    let refused =
+    judge-refused (countRows (args .t) (args .s)) (packedRows (args .t) (args .s) (args .packed .now)) _ why in (
+      told-refused refused (late-counts (args .t) (args .s) why) (args .t) (args .s) _ (args .long),
+      left-refused refused _ (args .out .now),
+    )
 
 same-length : tie.Need-same-length
 same-length c = search needs
@@ -122,7 +132,8 @@ returns-3 c =
     let here = spreading .before .before .before .before .before in
     let n = t here + s here in
     let beats = unpacked n (packed here) in (
-      spreading .spread .ensures .0 ∙ ap (told (t here) (s here) (numberOf (t here) (s here) beats) (long here)) (sym (verdict here)),
+      spreading .spread .ensures .0
+          ∙ ap (told (t here) (s here) (numberOf (t here) (s here) beats) (long here)) (sym (verdict here)),
       ap (λ (w : List ℕ). w ++ drop n (out here)) (spreading .spread .ensures .1)
           ∙ left-part (judge (packedRows (t here) (s here) (packed here))) n beats (out here)
           ∙ ap (λ (v : Verdict). left v (beats ++ drop n (out here)) (out here)) (sym (verdict here)),

@@ -1,5 +1,5 @@
--- `little::spell` meets its contract. The loop's invariant: the bytes so far, and those of the rest, are the number's. The measure is the bytes
--- still to write, and each turn writes one. Assumes nothing.
+-- `little::spell` meets its contract. The loop's invariant: the bytes so far, and those of the rest, are the number's.
+-- The measure is the bytes still to write, and each turn writes one. Assumes nothing.
 use Prim.Native.Nat.{_-_}
 use borrow.Author.Needs.{needs}
 use lib.ListN.{length}

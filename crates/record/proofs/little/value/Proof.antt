@@ -1,5 +1,5 @@
--- `little::value` meets its contract. The loop's invariant: the number is that of the bytes from `at` on. The measure is `at`, and each turn
--- takes one. Assumes nothing.
+-- `little::value` meets its contract. The loop's invariant: the number is that of the bytes from `at` on. The measure
+-- is `at`, and each turn takes one. Assumes nothing.
 use Prim.Native.Nat.{_-_, _<_}
 use native.Mathlib.Omega.{arith}
 use borrow.Author.Needs.{needs}
@@ -38,13 +38,20 @@ wide-requires c κs = search needs
 add-number : tie.Need-add-number Inv-loop μ-loop
 add-number c =
     let read = c .before in
-    omega (arith, small (read .before), c .wide .ensures, read .shared-slice-known2 .given (read .before .before .loop .at - 1))
+    omega (
+      arith,
+      small (read .before),
+      c .wide .ensures,
+      read .shared-slice-known2 .given (read .before .before .loop .at - 1),
+    )
 
 loop-less : tie.Need-loop-less Inv-loop μ-loop
 loop-less c = search needs
 
 loop-again : tie.Need-loop-again Inv-loop μ-loop
-loop-again c = let inside = c .before .before in valued-more (inside .before .loop .inv) (inside .loop-test .taken) (c .wide .result) (c .wide .ensures)
+loop-again c =
+    let inside = c .before .before in
+    valued-more (inside .before .loop .inv) (inside .loop-test .taken) (c .wide .result) (c .wide .ensures)
 
 returns : tie.Need-returns Inv-loop μ-loop
 returns c = valued-all (c .before .loop .inv) (c .loop-test .left)

@@ -12,7 +12,9 @@ returns : tie.Need-returns
 returns c = search needs
 
 returns-2 : tie.Need-returns-2
-returns-2 c = let start = c .before in sym (List·getD-eq-default (start .args .beats .now) 0 {n = start .args .at} (c .if1 .left))
+returns-2 c =
+    let start = c .before in
+    sym (List·getD-eq-default (start .args .beats .now) 0 {n = start .args .at} (c .if1 .left))
 
 pub beat-spec : {M : Type 1} → statement M
 beat-spec = tie.close (tie.spec shared-slice-read-result returns returns-2)

@@ -9,7 +9,9 @@ shared-slice-read-result : tie.Need-shared-slice-read-result
 shared-slice-read-result c = search needs
 
 returns : tie.Need-returns
-returns c = let args = c .before .before .args in sym (turned-new (args .src .now) (args .at) (args .byte) (c .before .if1 .taken))
+returns c =
+    let args = c .before .before .args in
+    sym (turned-new (args .src .now) (args .at) (args .byte) (c .before .if1 .taken))
 
 returns-2 : tie.Need-returns-2
 returns-2 c = let args = c .before .args in sym (turned-old (args .src .now) (args .at) (args .byte) (c .if1 .left))

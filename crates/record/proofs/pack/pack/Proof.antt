@@ -1,4 +1,5 @@
--- `pack::pack` meets its contract. The loop's invariant: the bytes so far are packed. The measure is the bytes still to write. Assumes nothing.
+-- `pack::pack` meets its contract. The loop's invariant: the bytes so far are packed. The measure is the bytes still
+-- to write. Assumes nothing.
 use mathlib.Core.Path.{_∙_, ap}
 use Prim.Native.Nat.{ℕ, _-_, _*_}
 use native.Mathlib.Omega.{arith}
@@ -19,10 +20,14 @@ loop-holds : tie.Need-loop-holds Inv-loop μ-loop
 loop-holds c = let args = c .before .before .args in filled-start _ (args .out .now)
 
 mul-octet : tie.Need-mul-octet Inv-loop μ-loop
-mul-octet c = let start = c .before .before .before .before in omega (arith, start .pre .0, start .pre .2, c .before .loop .inv .long, c .loop-test .taken)
+mul-octet c =
+    let start = c .before .before .before .before in
+    omega (arith, start .pre .0, start .pre .2, c .before .loop .inv .long, c .loop-test .taken)
 
 octet-requires : tie.Need-octet-requires Inv-loop μ-loop
-octet-requires c κs = let start = c .before .before .before .before in (omega (arith, start .pre .0, start .pre .2, c .before .loop .inv .long, c .loop-test .taken), start .pre .1)
+octet-requires c κs =
+    let start = c .before .before .before .before in
+    (omega (arith, start .pre .0, start .pre .2, c .before .loop .inv .long, c .loop-test .taken), start .pre .1)
 
 slice-write-out : tie.Need-slice-write-out Inv-loop μ-loop
 slice-write-out c = search needs
@@ -34,13 +39,18 @@ loop-less : tie.Need-loop-less Inv-loop μ-loop
 loop-less c = let inside = c .before in omega (arith, inside .before .loop .inv .long, inside .loop-test .taken)
 
 loop-again : tie.Need-loop-again Inv-loop μ-loop
-loop-again c = let inside = c .before in filled-more (inside .before .loop .inv) (inside .loop-test .taken) (c .octet .result) (c .octet .ensures)
+loop-again c =
+    let inside = c .before in
+    filled-more (inside .before .loop .inv) (inside .loop-test .taken) (c .octet .result) (c .octet .ensures)
 
 same-length : tie.Need-same-length Inv-loop μ-loop
 same-length c = c .before .loop .inv .long
 
 returns : tie.Need-returns Inv-loop μ-loop
-returns c = let start = c .before .before .before .before in filled-all (c .before .loop .inv) (c .loop-test .left) ∙ ap (λ (n : ℕ). tabulate n (λ j. spell 8 (drop (8 * j) (start .args .beats .now)))) (start .pre .2)
+returns c =
+    let start = c .before .before .before .before in
+    filled-all (c .before .loop .inv) (c .loop-test .left)
+    ∙ ap (λ (n : ℕ). tabulate n (λ j. spell 8 (drop (8 * j) (start .args .beats .now)))) (start .pre .2)
 
 pub pack-spec : {M : Type 1} → statement M
 pack-spec =

@@ -1,5 +1,5 @@
--- `pack::unpack` meets its contract. The loop's invariant: the beats so far, and the bits left of the byte in hand. The measure is the beats
--- still to write. Assumes nothing.
+-- `pack::unpack` meets its contract. The loop's invariant: the beats so far, and the bits left of the byte in hand. The
+-- measure is the beats still to write. Assumes nothing.
 use Prim.Native.Nat.{_-_}
 use native.Mathlib.Omega.{arith}
 use lib.ListN.{length}
@@ -22,7 +22,9 @@ bytes : (c : tie.In-loop Inv-loop μ-loop) → Bytes (c .before .before .before 
 bytes c i = omega (arith, c .before .before .before .shared-slice-known .given i)
 
 current-requires : tie.Need-current-requires Inv-loop μ-loop
-current-requires c κs = let start = c .before .before .before .before in omega (arith, start .pre, c .before .loop .inv .filled .long, c .loop-test .taken)
+current-requires c κs =
+    let start = c .before .before .before .before in
+    omega (arith, start .pre, c .before .loop .inv .filled .long, c .loop-test .taken)
 
 slice-write-out : tie.Need-slice-write-out Inv-loop μ-loop
 slice-write-out c = search needs
@@ -37,7 +39,10 @@ loop-less : tie.Need-loop-less Inv-loop μ-loop
 loop-less c = let inside = c .before in omega (arith, inside .before .loop .inv .filled .long, inside .loop-test .taken)
 
 loop-again : tie.Need-loop-again Inv-loop μ-loop
-loop-again c = let inside = c .before in unpacked-more (bytes inside) (inside .before .loop .inv) (inside .loop-test .taken) (c .current .result) (c .current .ensures)
+loop-again c =
+    let inside = c .before in
+    unpacked-more (bytes inside) (inside .before .loop .inv) (inside .loop-test .taken) (c .current .result)
+    (c .current .ensures)
 
 same-length : tie.Need-same-length Inv-loop μ-loop
 same-length c = c .before .loop .inv .filled .long

@@ -121,8 +121,11 @@ pack-requires c κs =
     let n = from + sizing .bytes-for .result - from in
     let kept = heading .head .kept .1 .1 .1 .1 .1 .0 in
     let room : length (take n (drop from x)) ≡ n =
-    length-take-le n (drop from x) (omega (arith, length-drop from x, kept, test .if1 .left)) in
-    (omega (arith, few here), all-beats (beats here) (form here .1 .beats), omega (arith, room, sizing .bytes-for .ensures))
+    length-take-le n (drop from x) (omega (arith, length-drop from x, kept, test .if1 .left)) in (
+      omega (arith, few here),
+      all-beats (beats here) (form here .1 .beats),
+      omega (arith, room, sizing .bytes-for .ensures),
+    )
 
 returns-2 : tie.Need-returns-2
 returns-2 c =
@@ -151,7 +154,8 @@ returns-3 c =
     (omega (arith, size here, sizing .bytes-for .ensures, start here .pre, test .if1 .left)) in
     let exact : bytes ≡ length (packed (beats here)) = sizing .bytes-for .ensures ∙ sym (packed-size (beats here)) in
     accepted-so accepted (omega (arith, size here, sizing .bytes-for .ensures, start here .pre))
-    (record-made (Layout.Beaten (at here)) (start here .args .kind) (t here) (s here) (beats here) (from + bytes - 2) from (from + bytes - from)
+    (record-made (Layout.Beaten (at here)) (start here .args .kind) (t here) (s here) (beats here) (from + bytes - 2)
+    from (from + bytes - from)
     (out here) x (packing .pack .last .1 .0) (heading .head .ensures) (packing .pack .ensures) (omega (arith, exact))
     (omega (arith, start here .pre)) (omega (arith, exact)))
     (out here)

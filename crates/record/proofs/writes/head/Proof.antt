@@ -43,19 +43,25 @@ cast-out-3 : tie.Need-cast-out-3
 cast-out-3 c = search needs
 
 slice-write-out-3 : tie.Need-slice-write-out-3
-slice-write-out-3 c = lt-length-set (set (out c) 0 (a c)) 1 (b c) (lt-length-set (out c) 0 (a c) (omega (arith, c .pre)))
+slice-write-out-3 c =
+    lt-length-set (set (out c) 0 (a c)) 1 (b c) (lt-length-set (out c) 0 (a c) (omega (arith, c .pre)))
 
 cast-out-4 : tie.Need-cast-out-4
 cast-out-4 c = search needs
 
 slice-write-out-4 : tie.Need-slice-write-out-4
-slice-write-out-4 c = lt-length-set (set (set (out c) 0 (a c)) 1 (b c)) 2 (d c) (lt-length-set (set (out c) 0 (a c)) 1 (b c) (lt-length-set (out c) 0 (a c) (omega (arith, c .pre))))
+slice-write-out-4 c =
+    lt-length-set (set (set (out c) 0 (a c)) 1 (b c)) 2 (d c)
+    (lt-length-set (set (out c) 0 (a c)) 1 (b c) (lt-length-set (out c) 0 (a c) (omega (arith, c .pre))))
 
 cast-out-5 : tie.Need-cast-out-5
 cast-out-5 c = search needs
 
 slice-write-out-5 : tie.Need-slice-write-out-5
-slice-write-out-5 c = lt-length-set (set (set (set (out c) 0 (a c)) 1 (b c)) 2 (d c)) 3 (e c) (lt-length-set (set (set (out c) 0 (a c)) 1 (b c)) 2 (d c) (lt-length-set (set (out c) 0 (a c)) 1 (b c) (lt-length-set (out c) 0 (a c) (omega (arith, c .pre)))))
+slice-write-out-5 c =
+    lt-length-set (set (set (set (out c) 0 (a c)) 1 (b c)) 2 (d c)) 3 (e c)
+    (lt-length-set (set (set (out c) 0 (a c)) 1 (b c)) 2 (d c)
+    (lt-length-set (set (out c) 0 (a c)) 1 (b c) (lt-length-set (out c) 0 (a c) (omega (arith, c .pre)))))
 
 cast-out-6 : tie.Need-cast-out-6
 cast-out-6 c = search needs

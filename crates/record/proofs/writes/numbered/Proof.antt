@@ -50,7 +50,8 @@ module _ (c : tie.After-known-told2) where
 
   numbered : (checked t s beats ≡ Verdict.Accepted) × (c .before .answer2 .given .0 .0 ≡ numberOf t s beats)
   numbered =
-      answer-value (checked t s beats) (numberOf t s beats) (sym (called .number .ensures) ∙ c .before .answer2 .given .1)
+      answer-value (checked t s beats) (numberOf t s beats)
+      (sym (called .number .ensures) ∙ c .before .answer2 .given .1)
 
   few : (t < 256) × (s < 256)
   few =
@@ -135,10 +136,14 @@ returns-3 c =
     let eight : length (take n (drop from x)) ≡ 8 =
     length-take-le n (drop from x) (omega (arith, length-drop from x, kept, test .if1 .left)) ∙ omega arith in
     let body =
-    spelling .spell .ensures ∙ ap (λ (j : ℕ). lowFirst j (here .before .answer2 .given .0 .0)) eight ∙ ap (lowFirst 8) (numbered here .1) in
+    spelling .spell .ensures
+    ∙ ap (λ (j : ℕ). lowFirst j (here .before .answer2 .given .0 .0)) eight
+    ∙ ap (lowFirst 8) (numbered here .1) in
     accepted-so accepted (omega (arith, size here, start here .pre))
-    (record-made (Layout.Numbered (at here)) (start here .args .kind) (t here) (s here) (beats here) (from + 8 - 2) from n (out here) x
-    (spelling .spell .last .1 .0) (heading .head .ensures) body (omega (arith, long)) (omega (arith, start here .pre)) (omega (arith, long)))
+    (record-made (Layout.Numbered (at here)) (start here .args .kind) (t here) (s here) (beats here) (from + 8 - 2) from
+    n (out here) x
+    (spelling .spell .last .1 .0) (heading .head .ensures) body (omega (arith, long)) (omega (arith, start here .pre))
+    (omega (arith, long)))
     (out here)
 
 pub numbered-spec : {M : Type 1} → statement M

@@ -1,5 +1,5 @@
--- `refusal::Answer::verdict` meets its contract: in the refused arm the answer is the constructor at the refusal that the arm binds.
--- Assumes nothing.
+-- `refusal::Answer::verdict` meets its contract: in the refused arm the answer is the constructor at the refusal that
+-- the arm binds. Assumes nothing.
 use mathlib.Core.Path.{ap, sym}
 use borrow.Author.Needs.{needs}
 use Rattle.refusal.specs.Answer.{verdict}

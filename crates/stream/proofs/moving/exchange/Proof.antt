@@ -20,7 +20,8 @@ send-requires c κs = search needs
 returns : tie.Need-returns
 returns c =
     let start = c .before .before .before .before .before .before .before in
-    on-unwritten (start .args .input .now) (start .args .text .now) (start .args .stream) (start .args .pass) (start .pre)
+    on-unwritten (start .args .input .now) (start .args .text .now) (start .args .stream) (start .args .pass)
+    (start .pre)
 
 enum-told : tie.Need-enum-told
 enum-told c = search needs
@@ -28,7 +29,8 @@ enum-told c = search needs
 refill-requires : tie.Need-refill-requires
 refill-requires c κs =
     let start = c .before .before .before .before .before .before .before .before .before .before in
-    has-room (start .args .input .now) (start .args .text .now) (start .args .stream) (start .args .pass) (start .pre) (c .before .enum-told .given .1)
+    has-room (start .args .input .now) (start .args .text .now) (start .args .stream) (start .args .pass) (start .pre)
+    (c .before .enum-told .given .1)
 
 enum-told-2 : tie.Need-enum-told-2
 enum-told-2 c = search needs
@@ -43,17 +45,20 @@ returns-2 : tie.Need-returns-2
 returns-2 c =
     let filled = c .before .before in
     let start = filled .before .before .before .before .before .before .before .before .before .before .before in
-    on-fed (start .args .input .now) (start .args .text .now) (start .args .stream) (start .args .pass) (start .pre) (filled .before .before .enum-told .given .1) (filled .refill .ensures)
+    on-fed (start .args .input .now) (start .args .text .now) (start .args .stream) (start .args .pass) (start .pre)
+    (filled .before .before .enum-told .given .1) (filled .refill .ensures)
 
 returns-3 : tie.Need-returns-3
 returns-3 c =
     let start = c .before .before .before .before .before .before .before .before .before in
-    on-again (start .args .input .now) (start .args .text .now) (start .args .stream) (start .args .pass) (start .pre) (c .enum-told2 .given .1)
+    on-again (start .args .input .now) (start .args .text .now) (start .args .stream) (start .args .pass) (start .pre)
+    (c .enum-told2 .given .1)
 
 returns-4 : tie.Need-returns-4
 returns-4 c =
     let start = c .before .before .before .before .before .before .before .before .before in
-    on-over (start .args .input .now) (start .args .text .now) (start .args .stream) (start .args .pass) (start .pre) (c .enum-told3 .given .1)
+    on-over (start .args .input .now) (start .args .text .now) (start .args .stream) (start .args .pass) (start .pre)
+    (c .enum-told3 .given .1)
 
 pub exchange-spec : {M : Type 1} → statement M
 exchange-spec =

@@ -1,4 +1,5 @@
--- `moving::read_again` is safe and ends: the bytes stay as many as they were, and the measure is the tries that are left. Assumes nothing.
+-- `moving::read_again` is safe and ends: the bytes stay as many as they were, and the measure is the tries that
+-- are left. Assumes nothing.
 use mathlib.Core.Path.{_≡_}
 use lib.ListN.{length}
 use borrow.Author.Needs.{needs}

@@ -31,7 +31,8 @@ returns c =
     let called = c .before .before .before in
     let slid = called .before .before .before .before in
     let start = slid .before .before .before in
-    refill-lost (start .args .input .now) (start .args .at) (start .args .have) (start .pre) (slid .slide .last .0) (slid .slide .kept .0) (slid .slide .ensures) _ (same-length c)
+    refill-lost (start .args .input .now) (start .args .at) (start .args .have) (start .pre) (slid .slide .last .0)
+    (slid .slide .kept .0) (slid .slide .ensures) _ (same-length c)
 
 sub-count : tie.Need-sub-count
 sub-count c = search needs
@@ -56,7 +57,8 @@ returns-2 c =
     let called = c .before .before .before .before .before .before in
     let slid = called .before .before .before .before in
     let start = slid .before .before .before in
-    refill-got (start .args .input .now) (start .args .at) (start .args .have) (start .pre) (slid .slide .last .0) (slid .slide .kept .0) (slid .slide .ensures) _ (same-length-2 c) (c .count .result) (c .count .ensures .0 .0)
+    refill-got (start .args .input .now) (start .args .at) (start .args .have) (start .pre) (slid .slide .last .0)
+    (slid .slide .kept .0) (slid .slide .ensures) _ (same-length-2 c) (c .count .result) (c .count .ensures .0 .0)
 
 pub refill-spec : {M : Type 1} → statement M
 refill-spec =

@@ -1,4 +1,5 @@
--- `moving::send` is safe and ends: no more is sent than there is, and the measure is what is left to send. Assumes nothing.
+-- `moving::send` is safe and ends: no more is sent than there is, and the measure is what is left
+-- to send. Assumes nothing.
 use Prim.Native.Nat.{_-_, _≤_}
 use lib.ListN.{length}
 use borrow.Author.Needs.{needs}

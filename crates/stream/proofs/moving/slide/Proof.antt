@@ -1,5 +1,5 @@
--- `moving::slide` meets its contract. The loop's invariant: the first k bytes are moved, and the others are as they were. The measure is the bytes
--- still to move. Assumes nothing.
+-- `moving::slide` meets its contract. The loop's invariant: the first k bytes are moved, and the others are as they
+-- were. The measure is the bytes still to move. Assumes nothing.
 use Prim.Native.Nat.{_-_}
 use native.Mathlib.Omega.{arith}
 use Rattle.stream.proofs.Sliding.{Slid, slid-start, slid-more, slid-all}
@@ -20,10 +20,14 @@ add-input : tie.Need-add-input Inv-loop μ-loop
 add-input c = omega (arith, c .before .before .pre, c .before .loop .inv .long, c .loop-test .taken)
 
 slice-read-input : tie.Need-slice-read-input Inv-loop μ-loop
-slice-read-input c = let inside = c .before in omega (arith, inside .before .before .pre, inside .before .loop .inv .long, inside .loop-test .taken)
+slice-read-input c =
+    let inside = c .before in
+    omega (arith, inside .before .before .pre, inside .before .loop .inv .long, inside .loop-test .taken)
 
 slice-write-input : tie.Need-slice-write-input Inv-loop μ-loop
-slice-write-input c = let inside = c .before in omega (arith, inside .before .before .pre, inside .before .loop .inv .long, inside .loop-test .taken)
+slice-write-input c =
+    let inside = c .before in
+    omega (arith, inside .before .before .pre, inside .before .loop .inv .long, inside .loop-test .taken)
 
 add-k : tie.Need-add-k Inv-loop μ-loop
 add-k c = search needs
@@ -32,7 +36,9 @@ loop-less : tie.Need-loop-less Inv-loop μ-loop
 loop-less c = search needs
 
 loop-again : tie.Need-loop-again Inv-loop μ-loop
-loop-again c = let inside = c .before in slid-more (inside .before .before .pre) (inside .before .loop .inv) (inside .loop-test .taken)
+loop-again c =
+    let inside = c .before in
+    slid-more (inside .before .before .pre) (inside .before .loop .inv) (inside .loop-test .taken)
 
 same-length : tie.Need-same-length Inv-loop μ-loop
 same-length c = c .before .loop .inv .long

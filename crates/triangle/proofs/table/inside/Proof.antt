@@ -1,4 +1,5 @@
--- `triangle::table::inside` meets its contract: the part that has row t has the entry at the place of t, s. Assumes nothing.
+-- `triangle::table::inside` meets its contract: the part that has row t has the entry at the place
+-- of t, s. Assumes nothing.
 use mathlib.Core.Path.{_∙_, sym}
 use Prim.Native.Nat.{_≤_, _<_}
 use native.Mathlib.Omega.{arith}
@@ -29,7 +30,9 @@ in-low-requires : tie.Need-in-low-requires
 in-low-requires c κs = low-at (first c .args .t) (first c .args .s) (in-first c) (first c .pre .1)
 
 returns : tie.Need-returns
-returns c = let part = c .before in c .in-low .ensures ∙ sym (low-at (first part .args .t) (first part .args .s) (in-first part) (first part .pre .1))
+returns c =
+    let part = c .before in
+    c .in-low .ensures ∙ sym (low-at (first part .args .t) (first part .args .s) (in-first part) (first part .pre .1))
 
 -- in the middle part
 module _ (c : tie.Then2) where
@@ -37,18 +40,22 @@ module _ (c : tie.Then2) where
   second = c .before .before
 
   from-second : middleRow ≤ second .args .t
-  from-second = place-from (second .args .t) (second .args .s) middleRow (second .pre .1) (omega (arith, c .before .if1 .left))
+  from-second =
+      place-from (second .args .t) (second .args .s) middleRow (second .pre .1) (omega (arith, c .before .if1 .left))
 
   in-second : second .args .t < highRow
   in-second = place-below (second .args .t) (second .args .s) highRow (c .if2 .taken)
 
 in-middle-requires : tie.Need-in-middle-requires
-in-middle-requires c κs = middle-at (second c .args .t) (second c .args .s) (from-second c) (in-second c) (second c .pre .1)
+in-middle-requires c κs =
+    middle-at (second c .args .t) (second c .args .s) (from-second c) (in-second c) (second c .pre .1)
 
 returns-2 : tie.Need-returns-2
 returns-2 c =
     let part = c .before in
-    c .in-middle .ensures ∙ sym (middle-at (second part .args .t) (second part .args .s) (from-second part) (in-second part) (second part .pre .1))
+    c .in-middle .ensures
+    ∙ sym (middle-at (second part .args .t) (second part .args .s) (from-second part) (in-second part)
+    (second part .pre .1))
 
 -- in the high part
 module _ (c : tie.Else2) where
@@ -64,7 +71,9 @@ in-high-requires c κs = high-at (third c .args .t) (third c .args .s) (from-thi
 returns-3 : tie.Need-returns-3
 returns-3 c =
     let part = c .before in
-    c .in-high .ensures ∙ sym (high-at (third part .args .t) (third part .args .s) (from-third part) (third part .pre .0) (third part .pre .1))
+    c .in-high .ensures
+    ∙ sym (high-at (third part .args .t) (third part .args .s) (from-third part) (third part .pre .0)
+    (third part .pre .1))
 
 pub inside-spec : {M : Type 1} → statement M
 inside-spec =

@@ -1,4 +1,5 @@
--- `triangle::table::listed` meets its contract: outside the table there is nothing, and inside the array is the list. Assumes nothing.
+-- `triangle::table::listed` meets its contract: outside the table there is nothing, and inside the array is
+-- the list. Assumes nothing.
 use mathlib.Core.Path.{sym}
 use borrow.Author.Needs.{needs}
 use Rattle.triangle.proofs.Rule.{at-row-outside, at-column-outside}
