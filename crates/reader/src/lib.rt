@@ -1,5 +1,6 @@
 // Order records, read: the manual, "Order record", by the layout of their kind. The contracts cite specs/Answers,
-// which says what reading answers and leaves by the definitions of `record`; proofs/Theorems says that what was written is read back, and that what is read is written again byte for byte. [P1]
+// which says what reading answers and leaves by the definitions of `record`; proofs/Theorems says that what was
+// written is read back, and that what is read is written again byte for byte. [P1]
 ghost use mathlib.Core.Path.{_≡_};
 ghost use Rattle.lookup.specs.Lent.{Counts};
 ghost use Rattle.reader.specs.Answers.{readAnswer, readLeft};
