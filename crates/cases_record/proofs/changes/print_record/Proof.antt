@@ -1,4 +1,4 @@
--- `cases_record::changes::print_record` is safe and ends: at most mostBeats beats, and at most 20 bytes. Assumes nothing.
+-- `cases_record::changes::print_record` is safe and ends: at most mostBeats beats, at most 20 bytes. Assumes nothing.
 use borrow.Author.Needs.{needs}
 use mathlib.Core.Path.{sym}
 use Prim.Native.Nat.{ℕ, _+_}
