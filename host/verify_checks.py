@@ -147,6 +147,7 @@ COMMAND, PROGRAM = "target/host/packing_list", "target/bin/packing_list"
 LOOK, LOOKUP, STREAM = "| `lookup` | `look` |", "crates/lookup/src/lib.rt", "crates/stream/src/lib.rt"
 GROUND, WALK, ORACLE, PACKING = "crates/cases_ground/stdout", "crates/cases_walk/stdout", "host/oracle.py", "host/packing.py"
 COUNT, COUNTS = "crates/triangle/specs/Count.antt", "crates/triangle/src/table.rt"
+LARGEST = "LARGEST: u64 = "  # before the number that follows it in the table of counts
 TABLE_1, FIGURE = "Table 1 of source 000", "Figure 2.3 of source 001"
 OPTIMIZED = {"PYTHONOPTIMIZE": "1"}
 
@@ -232,13 +233,13 @@ BREAKS = {
         Break("another number in Table 1", ORACLE, swap("[1, 5, 14, 28,", "[1, 5, 14, 29,"), (TABLE_1, "row 5"), OPTIMIZED),
         Break("another word in Figure 2.3", ORACLE, swap('"11001100 ', '"11001010 '), (FIGURE,), OPTIMIZED),
         Break("a wrong line", GROUND, swap("check 2 2 1001: refused 5 2", "check 2 2 1001: refused 5 1"), ("check 2 2 1001",), OPTIMIZED),
-        Break("a line of no kind", GROUND, swap("count 33 0:", "cuont 33 0:"), ("'cuont'",)),
+        Break("a line of no kind", GROUND, swap("count 2 3:", "cuont 2 3:"), ("'cuont'",)),
         Break("a stored output gone", WALK, gone, (WALK,)),
         *kinds_gone(),
     ],
     "table_as_generated": [
-        Break("another number in the table", COUNTS, swap("LARGEST: u64 = 32;", "LARGEST: u64 = 31;"), ("src/table.rt is not",)),
-        Break("no largest count", COUNT, drop("largest = 32"), ("has not one line 'largest = NUMBER'",)),
+        Break("another number in the table", COUNTS, swap(LARGEST, f"{LARGEST}1"), ("src/table.rt is not",)),
+        Break("no largest count", COUNT, drop("largest = "), ("has not one line 'largest = NUMBER'",)),
     ],
     "header_agrees": [
         Break("another constant", HEADER, swap("#define GV_RUN_TOO_LONG 13", "#define GV_RUN_TOO_LONG 14"), ("GV_RUN_TOO_LONG",)),

@@ -193,7 +193,7 @@ def kinds():
 def pairs_of_counts():
     """Every t with the s around the bounds, in both kinds, with number 0 or its beats, or all bits 0."""
     for t in range(256):
-        for s in {0, 1, max(0, t - 1), t, min(255, t + 1), 32, 33, 255}:
+        for s in {0, 1, max(0, t - 1), t, min(255, t + 1), oracle.LARGEST, oracle.LARGEST + 1, 255}:
             yield packing.numbered(t, s, 0)
             yield packing.packed(t, s, [1] * t + [0] * s)
             yield packing.packed(t, s, [0] * (t + s))
@@ -220,7 +220,7 @@ def beats():
         if 1 <= t + s <= 8:
             for byte in range(256):
                 yield packing.framed(bytes([2, 0, t, s, byte]))
-        if t + s in (9, 15, 16, 33, 63, 64) and s > 2:
+        if t + s in (9, 15, 16, 33, oracle.BEATS - 1, oracle.BEATS) and s > 2:
             record = packing.packed(t, s, oracle.form_of(t, s, oracle.forms(t, s) // 3))
             for bit in range(8 * (len(record) - 6)):
                 yield record[:6] + (int.from_bytes(record[6:], "big") ^ 1 << bit).to_bytes(len(record) - 6, "big")
@@ -230,9 +230,10 @@ def beats():
 
 def faults_together():
     """Records with several faults: the order decides."""
-    for length, kind, t, s, fill in itertools.product(
-        (0, 1, 2, 3, 4, 5, 6, 11, 12, 13, 14), (0, 1, 2, 3, 256, 257), (0, 1, 3, 32, 33, 255), (0, 1, 2, 32, 33, 255), (0, 1, 0xA8, 0xFF)
-    ):
+    edges = (oracle.LARGEST, oracle.LARGEST + 1, 255)
+    lengths_and_kinds = (0, 1, 2, 3, 4, 5, 6, 11, 12, 13, 14), (0, 1, 2, 3, 256, 257)
+    counts_and_fills = (0, 1, 3, *edges), (0, 1, 2, *edges), (0, 1, 0xA8, 0xFF)
+    for length, kind, t, s, fill in itertools.product(*lengths_and_kinds, *counts_and_fills):
         yield packing.framed((kind.to_bytes(2, "little") + bytes([t, s]) + bytes([fill] * 10))[:length])
 
 
@@ -264,10 +265,11 @@ def filler(length):
     return b"".join(made) + of_length(length)
 
 
-FULL = oracle.forms(32, 32)
+MOST = oracle.LARGEST
+FULL = oracle.forms(MOST, MOST)
 STRADDLERS = {
-    "kind 1": packing.numbered(32, 32, FULL - 1),
-    "kind 2": packing.packed(32, 32, oracle.form_of(32, 32, FULL // 2)),
+    "kind 1": packing.numbered(MOST, MOST, FULL - 1),
+    "kind 2": packing.packed(MOST, MOST, oracle.form_of(MOST, MOST, FULL // 2)),
     "longest": packing.framed(body_of(1, 1020)),
 }
 BEHIND = b"".join(records.stream(8, 40)) + SAMPLE[0]

@@ -222,8 +222,8 @@ def ask_largest(caller):
 
 def ask_refused(caller):
     """Each refusal that these functions give, which leaves what was lent; and the longest run, the last number."""
-    most = constants()["GV_MAX_STEPS"]
-    for t, s in ((33, 0), (2, 3), (TOP, TOP), (1 << 32, 0), (2, 1 << 32)):
+    largest, most = constants()["GV_MAX_TASKS"], constants()["GV_MAX_STEPS"]
+    for t, s in ((largest + 1, 0), (2, 3), (TOP, TOP), (1 << 32, 0), (2, 1 << 32)):
         ask_counts(caller, t, s)
         ask_beats(caller, t, s, [1, 1, 0])
         ask_form(caller, t, s, 0, [7, 7, 7])

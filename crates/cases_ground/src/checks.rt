@@ -1,4 +1,7 @@
 // Both sides of each refusal of the count and of the check, and the examples of the manual.
+use triangle::BEATS;
+use triangle::LARGEST;
+use triangle::SIDE;
 
 fn ask_count(t: u64, s: u64) {
     show::text(b"count ");
@@ -22,22 +25,22 @@ fn ask(t: u64, s: u64, beats: &[u8]) {
     show::text(b"\n");
 }
 
-// Refusals 1 and 2 of a count, 1 first; the manual's (33, 0) and (2, 3).
+// Refusals 1 and 2 of a count, 1 first; the manual's one task too many, with none set down, and its (2, 3).
 pub fn counts() {
-    ask_count(32, 32);
-    ask_count(33, 0);
-    ask_count(33, 34);
+    ask_count(LARGEST, LARGEST);
+    ask_count(LARGEST + 1, 0);
+    ask_count(200, 201);
     ask_count(18446744073709551615, 0);
     ask_count(2, 2);
     ask_count(2, 3);
     ask_count(0, 1);
-    ask_count(32, 18446744073709551615);
+    ask_count(LARGEST, 18446744073709551615);
 }
 
 // The same of the check.
 pub fn sizes() {
-    ask(33, 0, &[]);
-    ask(33, 34, &[2]);
+    ask(200, 0, &[]);
+    ask(200, 201, &[2]);
     ask(18446744073709551615, 18446744073709551615, &[]);
     ask(2, 3, &[]);
     ask(2, 3, &[1, 1, 0, 0, 0]);
@@ -90,20 +93,20 @@ pub fn wrong_take_ups() {
 
 // As many beats as a schedule may have, and one more; the last and then the first beat at fault.
 pub fn limits() {
-    let up = [1u8; 32];
-    ask(32, 0, &up);
-    let over = [1u8; 33];
-    ask(33, 0, &over);
-    ask(32, 1, &over);
-    let mut full = [0u8; 64];
-    show::raise(&mut full, 32);
-    ask(32, 32, &full);
-    show::raise(&mut full, 33);
-    ask(32, 32, &full);
-    full[63] = 7;
-    ask(32, 32, &full);
+    let up = [1u8; LARGEST as usize];
+    ask(LARGEST, 0, &up);
+    let over = [1u8; SIDE];
+    ask(LARGEST + 1, 0, &over);
+    ask(LARGEST, 1, &over);
+    let mut full = [0u8; BEATS];
+    show::raise(&mut full, LARGEST as usize);
+    ask(LARGEST, LARGEST, &full);
+    show::raise(&mut full, SIDE);
+    ask(LARGEST, LARGEST, &full);
+    full[BEATS - 1] = 7;
+    ask(LARGEST, LARGEST, &full);
     full[0] = 0;
-    ask(32, 32, &full);
-    full[63] = 0;
-    ask(32, 32, &full);
+    ask(LARGEST, LARGEST, &full);
+    full[BEATS - 1] = 0;
+    ask(LARGEST, LARGEST, &full);
 }

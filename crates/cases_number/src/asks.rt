@@ -1,5 +1,8 @@
 // Forms by their number, alone and on a sheet, on both sides of every refusal. Each line has the input, the
 // verdict and what is left in the lent bytes, which are 7 before.
+use triangle::BEATS;
+use triangle::LARGEST;
+use triangle::SIDE;
 
 fn print_input(t: u64, s: u64, number: u64) {
     show::number(t);
@@ -34,22 +37,32 @@ fn print_sheet(t: u64, s: u64, number: u64, sheet: &mut [u8], column: u64) {
     show::text(b"\n");
 }
 
-// The form of a number in so many bytes, at most 64.
+// The form of a number in so many bytes, at most BEATS.
 fn form(t: u64, s: u64, number: u64, length: usize) {
-    if 64 < length {
+    if BEATS < length {
         return;
     }
-    let mut out = [7u8; 64];
+    let mut out = [7u8; BEATS];
     print_form(t, s, number, &mut out[..length]);
 }
 
-// The form of a number from a column on, on a sheet of so many bytes, at most 64.
+// The form of a number from a column on, on a sheet of so many bytes, at most BEATS.
 fn sheet(t: u64, s: u64, number: u64, column: u64, length: usize) {
-    if 64 < length {
+    if BEATS < length {
         return;
     }
-    let mut bytes = [7u8; 64];
+    let mut bytes = [7u8; BEATS];
     print_sheet(t, s, number, &mut bytes[..length], column);
+}
+
+// How many forms the largest counts have.
+fn most() -> u64 {
+    counts::count(LARGEST, LARGEST).value()
+}
+
+// The last number of the largest counts.
+fn last() -> u64 {
+    std::num::wrapping_sub_u64(most(), 1)
 }
 
 // The first, the fourth and the last form of 3 and 2, the forms that are alone, and the longest.
@@ -60,23 +73,23 @@ pub fn forms() {
     form(1, 1, 0, 2);
     form(4, 0, 0, 4);
     form(0, 0, 0, 0);
-    form(32, 0, 0, 32);
-    form(32, 32, 0, 64);
-    form(32, 32, 1, 64);
-    form(32, 32, 55534064877048197, 64);
+    form(LARGEST, 0, 0, LARGEST as usize);
+    form(LARGEST, LARGEST, 0, BEATS);
+    form(LARGEST, LARGEST, 1, BEATS);
+    form(LARGEST, LARGEST, last(), BEATS);
 }
 
 // The refusals of a form in their order.
 pub fn form_refusals() {
-    form(33, 0, 0, 33);
-    form(33, 34, 0, 5);
+    form(LARGEST + 1, 0, 0, SIDE);
+    form(200, 201, 0, 5);
     form(18446744073709551615, 18446744073709551615, 0, 0);
     form(2, 3, 0, 5);
     form(2, 3, 18446744073709551615, 4);
     form(3, 2, 5, 5);
     form(3, 2, 18446744073709551615, 5);
     form(3, 2, 5, 4);
-    form(32, 32, 55534064877048198, 64);
+    form(LARGEST, LARGEST, most(), BEATS);
     form(0, 0, 1, 0);
     form(0, 0, 1, 1);
     form(3, 2, 4, 4);
@@ -97,8 +110,8 @@ pub fn sheets() {
     sheet(3, 2, 4, 0, 4);
     sheet(3, 2, 4, 0, 0);
     sheet(3, 2, 4, 18446744073709551611, 4);
-    sheet(32, 32, 55534064877048197, 0, 64);
-    sheet(32, 32, 55534064877048197, 1, 64);
+    sheet(LARGEST, LARGEST, last(), 0, BEATS);
+    sheet(LARGEST, LARGEST, last(), 1, BEATS);
 }
 
 // The form with no beats at all.
@@ -114,8 +127,8 @@ pub fn empty_forms() {
 
 // The refusals of a form on a sheet in their order.
 pub fn sheet_refusals() {
-    sheet(33, 0, 0, 0, 40);
-    sheet(33, 34, 0, 9, 4);
+    sheet(LARGEST + 1, 0, 0, 0, BEATS);
+    sheet(200, 201, 0, 9, 4);
     sheet(2, 3, 0, 0, 9);
     sheet(2, 3, 18446744073709551615, 9, 4);
     sheet(3, 2, 5, 0, 9);

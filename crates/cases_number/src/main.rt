@@ -8,7 +8,7 @@ mod ways;
 
 fn main() {
     ways::print_rows(9, true);
-    ways::print_rows(33, false);
+    ways::print_rows(triangle::LARGEST + 1, false);
     numbers::rounds();
     numbers::refusals();
     numbers::first_refusals();

@@ -53,7 +53,7 @@ pub fn rounds() {
 
 // Each refusal of a lent schedule.
 pub fn refusals() {
-    ask(33, 0, &[1, 1]);
+    ask(triangle::LARGEST + 1, 0, &[1, 1]);
     ask(2, 3, &[1, 1, 0, 0, 0]);
     ask(3, 2, &[1, 1, 0, 1]);
     ask(3, 2, &[1, 1, 0, 2, 0]);
@@ -63,7 +63,7 @@ pub fn refusals() {
 
 // Each before the next.
 pub fn first_refusals() {
-    ask(33, 34, &[2]);
+    ask(200, 201, &[2]);
     ask(2, 3, &[2]);
     ask(2, 1, &[0, 2]);
     ask(2, 1, &[0, 1, 2]);

@@ -1,5 +1,7 @@
-// The form of a number and the number of that form: for t up to 8 over every number, and for t up to 32
+// The form of a number and the number of that form: for t up to 8 over every number, and for every t
 // over the first two, the middle one, the last two and some scattered between.
+use triangle::BEATS;
+use triangle::LARGEST;
 
 // Writes the form of a number, and says whether it has that number.
 fn returns(t: u64, s: u64, number: u64, beats: &mut [u8]) -> bool {
@@ -110,21 +112,21 @@ fn print_line(t: u64, s: u64, beats: &mut [u8], every: bool) {
     }
 }
 
-// The line of t and s, for up to 64 beats.
+// The line of t and s, for up to BEATS beats.
 fn print_pair(t: u64, s: u64, every: bool) {
-    if 32 < t {
+    if LARGEST < t {
         return;
     }
     if t < s {
         return;
     }
-    let mut beats = [7u8; 64];
+    let mut beats = [7u8; BEATS];
     let n = (t + s) as usize;
     print_line(t, s, &mut beats[..n], every);
 }
 
 fn print_row(t: u64, every: bool) {
-    for s in 0..33u64 {
+    for s in 0..LARGEST + 1 {
         print_pair(t, s, every);
     }
 }

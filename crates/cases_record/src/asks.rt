@@ -1,6 +1,10 @@
 // One call of either way, printed with its input. The bytes that are lent to be filled are 7 before the call,
 // and the line has them as they are after it.
 use record::Reading;
+use triangle::BEATS;
+
+// The most places that are lent to read in: two more than the longest schedule takes.
+pub const PLACES: usize = BEATS + 2;
 
 fn print_number(n: u64) {
     show::text(b" ");
@@ -53,18 +57,18 @@ pub fn write(kind: u64, t: u64, s: u64, beats: &[u8], room: usize) {
     print_write(kind, t, s, beats, &mut out[..room]);
 }
 
-// What a record says, in so many places, at most 66.
+// What a record says, in so many places, at most PLACES.
 pub fn read_in(src: &[u8], room: usize) {
-    if 66 < room {
+    if PLACES < room {
         return;
     }
-    let mut out = [7u8; 66];
+    let mut out = [7u8; PLACES];
     print_read(src, &mut out[..room]);
 }
 
-// What a record says, in 66 places.
+// What a record says, in PLACES places.
 pub fn read(src: &[u8]) {
-    read_in(src, 66);
+    read_in(src, PLACES);
 }
 
 fn print_both(kind: u64, t: u64, s: u64, beats: &[u8], out: &mut [u8]) {
@@ -93,7 +97,7 @@ fn put(head: &[u8], bytes: &mut [u8]) {
 
 fn print_filled(head: &[u8], src: &mut [u8]) {
     put(head, src);
-    let mut out = [7u8; 66];
+    let mut out = [7u8; PLACES];
     show::text(b"filled");
     print_bytes(head);
     print_number(src.len() as u64);

@@ -2,6 +2,8 @@
 // every larger pair.
 use crate::folds;
 use crate::folds::Tally;
+use triangle::BEATS;
+use triangle::LARGEST;
 
 // The form of a number, in each kind.
 fn ask(tally: Tally, t: u64, s: u64, x: u64, beats: &mut [u8]) -> Tally {
@@ -67,22 +69,22 @@ fn ask_scattered(before: Tally, t: u64, s: u64, forms: u64, beats: &mut [u8]) ->
     tally
 }
 
-// A pair, for t and s up to 32.
+// A pair, for t and s up to LARGEST.
 fn ask_pair(tally: Tally, t: u64, s: u64) -> Tally {
-    if 32 < t {
+    if LARGEST < t {
         return tally;
     }
-    if 32 < s {
+    if LARGEST < s {
         return tally;
     }
-    let mut beats = [7u8; 64];
+    let mut beats = [7u8; BEATS];
     let n = (t + s) as usize;
     ask_scattered(tally, t, s, counts::count(t, s).value(), &mut beats[..n])
 }
 
-// The pairs of t, up to 32: how many records came back, and the digest.
+// The pairs of t, up to LARGEST: how many records came back, and the digest.
 fn print_pairs(t: u64) {
-    if 32 < t {
+    if LARGEST < t {
         return;
     }
     let mut tally = folds::none();

@@ -2,6 +2,9 @@
 // record says how many of these are accepted, the record itself among them, and the digest.
 use crate::folds;
 use crate::folds::Tally;
+use crate::spelled;
+use triangle::BEATS;
+use triangle::LARGEST;
 
 // Reads with one byte changed and then puts it back.
 fn change(tally: Tally, src: &mut [u8], at: usize, value: u8) -> Tally {
@@ -37,18 +40,18 @@ fn print_changes(src: &mut [u8]) {
     folds::print(change_all(src));
 }
 
-// The record that is written of a form, for t and s up to 32, into so many bytes, at most 20.
+// The record that is written of a form, for t and s up to LARGEST, into so many bytes, at most 20.
 fn print_record(kind: u64, t: u64, s: u64, x: u64, room: usize) {
     if 20 < room {
         return;
     }
-    if 32 < t {
+    if LARGEST < t {
         return;
     }
-    if 32 < s {
+    if LARGEST < s {
         return;
     }
-    let mut beats = [7u8; 64];
+    let mut beats = [7u8; BEATS];
     let mut bytes = [7u8; 20];
     let n = (t + s) as usize;
     print_written(kind, t, s, x, &mut beats[..n], &mut bytes[..room]);
@@ -62,13 +65,20 @@ fn print_written(kind: u64, t: u64, s: u64, x: u64, beats: &mut [u8], bytes: &mu
 
 // Some with no byte after them, some with two.
 pub fn print_all() {
+    let half = counts::count(LARGEST, LARGEST).value() / 2;
     print_record(1, 3, 2, 2, 14);
     print_record(1, 3, 2, 4, 16);
     print_record(2, 3, 2, 3, 7);
     print_record(2, 3, 2, 0, 9);
     print_record(2, 0, 0, 0, 6);
     print_record(2, 8, 5, 100, 8);
-    print_record(1, 32, 32, 27767032438524099, 14);
-    print_record(2, 32, 32, 27767032438524099, 14);
-    print_record(2, 32, 31, 12345678901234567, 16);
+    print_record(1, LARGEST, LARGEST, half, 14);
+    print_record(2, LARGEST, LARGEST, half, spelled::FULL_SIZE);
+    print_record(
+        2,
+        LARGEST,
+        LARGEST - 1,
+        12345678901234567,
+        spelled::FULL_SIZE + 2,
+    );
 }

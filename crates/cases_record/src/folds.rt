@@ -1,4 +1,5 @@
 // What many calls answered and left, for the lines that stand for many calls.
+use crate::asks::PLACES;
 use record::Reading;
 use refusal::Answer;
 
@@ -53,9 +54,9 @@ fn read_into(tally: Tally, src: &[u8], out: &mut [u8]) -> Tally {
     counted(tally, r.verdict().refusal() == 0, sum)
 }
 
-// Reads a record in 66 places that are 7; as wished if it is accepted.
+// Reads a record in PLACES places that are 7; as wished if it is accepted.
 pub fn read(tally: Tally, src: &[u8]) -> Tally {
-    let mut out = [7u8; 66];
+    let mut out = [7u8; PLACES];
     read_into(tally, src, &mut out)
 }
 
@@ -110,11 +111,11 @@ fn both_into(
     counted(tally, false, sum)
 }
 
-// Writes the record of the form with a number into 16 bytes that are 7 and reads it in 66 places that are 7;
+// Writes the record of the form with a number into 16 bytes that are 7 and reads it in PLACES places that are 7;
 // as wished if the form came back.
 pub fn both(tally: Tally, kind: u64, t: u64, s: u64, x: u64, beats: &[u8]) -> Tally {
     let mut bytes = [7u8; 16];
-    let mut out = [7u8; 66];
+    let mut out = [7u8; PLACES];
     both_into(tally, kind, t, s, x, beats, &mut bytes, &mut out)
 }
 

@@ -1,13 +1,15 @@
 // Records of some forms, of each kind: with a byte too little room, with exactly enough, and with three bytes
 // more. What is written is read back, alone and with those three bytes after it.
 use crate::asks;
+use triangle::BEATS;
+use triangle::LARGEST;
 
-// A record of so many bytes, 1 to 14.
+// A record of so many bytes, 1 to 17.
 fn print_rooms(kind: u64, t: u64, s: u64, beats: &[u8], size: usize) {
     if size == 0 {
         return;
     }
-    if 14 < size {
+    if 17 < size {
         return;
     }
     asks::write(kind, t, s, beats, size - 1);
@@ -15,9 +17,9 @@ fn print_rooms(kind: u64, t: u64, s: u64, beats: &[u8], size: usize) {
     asks::both(kind, t, s, beats, size + 3);
 }
 
-// Both kinds, for at most 64 beats.
+// Both kinds, for at most BEATS beats.
 fn print_kinds(t: u64, s: u64, beats: &[u8]) {
-    if 64 < beats.len() {
+    if BEATS < beats.len() {
         return;
     }
     print_rooms(1, t, s, beats, 14);
@@ -29,15 +31,15 @@ fn print_form_in(t: u64, s: u64, x: u64, beats: &mut [u8]) {
     print_kinds(t, s, beats);
 }
 
-// The form of a number, for t and s up to 32.
+// The form of a number, for t and s up to LARGEST.
 fn print_form(t: u64, s: u64, x: u64) {
-    if 32 < t {
+    if LARGEST < t {
         return;
     }
-    if 32 < s {
+    if LARGEST < s {
         return;
     }
-    let mut beats = [7u8; 64];
+    let mut beats = [7u8; BEATS];
     let n = (t + s) as usize;
     print_form_in(t, s, x, &mut beats[..n]);
 }
@@ -67,10 +69,11 @@ pub fn middle() {
 
 // The largest counts: the first forms, one in the middle, and the last.
 pub fn large() {
-    print_form(32, 0, 0);
-    print_form(32, 31, 12345678901234567);
-    print_form(32, 32, 0);
-    print_form(32, 32, 1);
-    print_form(32, 32, 27767032438524099);
-    print_form(32, 32, 55534064877048197);
+    let forms = counts::count(LARGEST, LARGEST).value();
+    print_form(LARGEST, 0, 0);
+    print_form(LARGEST, LARGEST - 1, 12345678901234567);
+    print_form(LARGEST, LARGEST, 0);
+    print_form(LARGEST, LARGEST, 1);
+    print_form(LARGEST, LARGEST, forms / 2);
+    print_form(LARGEST, LARGEST, std::num::wrapping_sub_u64(forms, 1));
 }

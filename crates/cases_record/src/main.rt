@@ -17,7 +17,7 @@ fn print_forms() {
     forms::middle();
     forms::large();
     backs::print_sizes(8);
-    backs::print_scattered(8, 33);
+    backs::print_scattered(8, triangle::LARGEST + 1);
     changes::print_all();
 }
 

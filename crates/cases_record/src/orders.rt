@@ -1,18 +1,20 @@
-// The order of the refusals of reading: each input has more than one fault, and the first one is said.
+// The order of the refusals of reading: each input has more than one fault, and the first one is said. Counts that
+// are too large are C8 and C9, which are 200 and 201.
 use crate::spelled;
+use triangle::BEATS;
 
 // 12 before all others.
 pub fn no_room() {
     spelled::read_in(0, 0, 0);
-    spelled::read_in(0, 0, 63);
-    spelled::read_in(1, 0x00, 63);
-    spelled::read_in(6, 0x05_00_02_00_03_02, 63);
-    spelled::read_in(3, 0x01_00_03, 63);
-    spelled::read_in(4, 0x02_00_03_00, 63);
-    spelled::read_in(6, 0x04_00_01_00_21_00, 63);
-    spelled::read_in(7, 0x05_00_02_00_21_00_00, 63);
-    spelled::read_in(7, 0x05_00_02_00_02_03_00, 63);
-    spelled::read_in(7, 0x05_00_02_00_01_01_40, 63);
+    spelled::read_in(0, 0, BEATS - 1);
+    spelled::read_in(1, 0x00, BEATS - 1);
+    spelled::read_in(6, 0x05_00_02_00_03_02, BEATS - 1);
+    spelled::read_in(3, 0x01_00_03, BEATS - 1);
+    spelled::read_in(4, 0x02_00_03_00, BEATS - 1);
+    spelled::read_in(6, 0x04_00_01_00_C8_00, BEATS - 1);
+    spelled::read_in(7, 0x05_00_02_00_C8_00_00, BEATS - 1);
+    spelled::read_in(7, 0x05_00_02_00_02_03_00, BEATS - 1);
+    spelled::read_in(7, 0x05_00_02_00_01_01_40, BEATS - 1);
 }
 
 // 9 before 11, 10, 1 and 2.
@@ -20,9 +22,9 @@ pub fn cut_short() {
     spelled::read(2, 0x01_00);
     spelled::read(3, 0x02_00_03);
     spelled::read(4, 0x03_00_03_00);
-    spelled::long(12, 0x0B_00_01_00_21_00_00_00, 0);
+    spelled::long(12, 0x0B_00_01_00_C8_00_00_00, 0);
     spelled::read(4, 0x03_00_02_00);
-    spelled::long(13, 0x0C_00_01_00_21_00_00_00, 0);
+    spelled::long(13, 0x0C_00_01_00_C8_00_00_00, 0);
     spelled::read(6, 0x05_00_02_00_02_03);
 }
 
@@ -31,29 +33,29 @@ pub fn of_kinds() {
     spelled::read(3, 0x01_00_03);
     spelled::read(4, 0x01_00_03_00);
     spelled::read(4, 0x00_00_FF_FF);
-    spelled::long(13, 0x0B_00_03_00_21_00_00_00, 0);
-    spelled::read(5, 0x03_00_03_00_21);
-    spelled::long(14, 0x0C_00_00_00_21_22_FF_FF, 0xFF_FF_FF_FF_FF_FF);
+    spelled::long(13, 0x0B_00_03_00_C8_00_00_00, 0);
+    spelled::read(5, 0x03_00_03_00_C8);
+    spelled::long(14, 0x0C_00_00_00_C8_C9_FF_FF, 0xFF_FF_FF_FF_FF_FF);
     spelled::read(7, 0x05_00_02_01_01_01_41);
 }
 
 // 11 for L of kind 1, or below 4, before 1 and 2; these before 7.
 pub fn of_sizes() {
-    spelled::long(13, 0x0B_00_01_00_21_00_00_00, 0);
+    spelled::long(13, 0x0B_00_01_00_C8_00_00_00, 0);
     spelled::long(15, 0x0D_00_01_00_02_03_00_00, 0);
-    spelled::read(6, 0x03_00_02_00_21_22);
-    spelled::long(14, 0x0C_00_01_00_21_22_FF_FF, 0xFF_FF_FF_FF_FF_FF);
-    spelled::long(14, 0x0C_00_01_00_21_21_FF_FF, 0xFF_FF_FF_FF_FF_FF);
+    spelled::read(6, 0x03_00_02_00_C8_C9);
+    spelled::long(14, 0x0C_00_01_00_C8_C9_FF_FF, 0xFF_FF_FF_FF_FF_FF);
+    spelled::long(14, 0x0C_00_01_00_C8_C8_FF_FF, 0xFF_FF_FF_FF_FF_FF);
     spelled::long(14, 0x0C_00_01_00_02_03_FF_FF, 0xFF_FF_FF_FF_FF_FF);
 }
 
 // 1 and 2 before 11 for the exact L of kind 2 and its unused bits.
 pub fn of_lengths() {
-    spelled::read(6, 0x04_00_02_00_21_22);
-    spelled::read(7, 0x05_00_02_00_21_00_00);
+    spelled::read(6, 0x04_00_02_00_C8_C9);
+    spelled::read(7, 0x05_00_02_00_C8_00_00);
     spelled::read(6, 0x04_00_02_00_02_03);
     spelled::read(8, 0x06_00_02_00_02_03_C8_FF);
-    spelled::long(11, 0x09_00_02_00_21_00_FF_FF, 0xFF_FF_FF);
+    spelled::long(spelled::OVER_SIZE, spelled::OVER + 0xFF_FF, 0xFF_FF_FF);
     spelled::read(7, 0x05_00_02_00_02_03_FF);
 }
 
@@ -72,10 +74,10 @@ pub fn of_beats() {
 
 // The same with L of 1,020, and above it.
 pub fn long() {
-    spelled::filled(6, 0xFC_03_01_00_21_00, 1022);
-    spelled::filled(6, 0xFC_03_02_00_21_00, 1022);
+    spelled::filled(6, 0xFC_03_01_00_C8_00, 1022);
+    spelled::filled(6, 0xFC_03_02_00_C8_00, 1022);
     spelled::filled(6, 0xFC_03_02_00_02_03, 1022);
     spelled::filled(7, 0xFC_03_02_00_01_01_41, 1022);
-    spelled::filled(6, 0xFC_03_00_03_21_00, 1022);
-    spelled::filled(6, 0xFD_03_03_00_21_00, 1030);
+    spelled::filled(6, 0xFC_03_00_03_C8_00, 1022);
+    spelled::filled(6, 0xFD_03_03_00_C8_00, 1030);
 }

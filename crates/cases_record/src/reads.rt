@@ -1,18 +1,20 @@
 // The refusals of reading, with what stands beside them. Their order is in orders.rt.
 use crate::asks;
 use crate::spelled;
+use triangle::BEATS;
+use triangle::LARGEST;
 
-// Refusal 12: 63 places and fewer, and enough of them.
+// Refusal 12: BEATS - 1 places and fewer, and enough of them.
 pub fn rooms() {
     spelled::read_in(7, 0x05_00_02_00_03_02_A8, 0);
     spelled::read_in(7, 0x05_00_02_00_03_02_A8, 5);
-    spelled::read_in(7, 0x05_00_02_00_03_02_A8, 63);
-    spelled::read_in(7, 0x05_00_02_00_03_02_A8, 64);
-    spelled::read_in(7, 0x05_00_02_00_03_02_A8, 65);
-    spelled::read_in(6, 0x04_00_02_00_00_00, 63);
-    spelled::read_in(6, 0x04_00_02_00_00_00, 64);
-    asks::read_in(&[12, 0, 1, 0, 3, 2, 2, 0, 0, 0, 0, 0, 0, 0], 63);
-    asks::read_in(&[12, 0, 1, 0, 3, 2, 2, 0, 0, 0, 0, 0, 0, 0], 64);
+    spelled::read_in(7, 0x05_00_02_00_03_02_A8, BEATS - 1);
+    spelled::read_in(7, 0x05_00_02_00_03_02_A8, BEATS);
+    spelled::read_in(7, 0x05_00_02_00_03_02_A8, BEATS + 1);
+    spelled::read_in(6, 0x04_00_02_00_00_00, BEATS - 1);
+    spelled::read_in(6, 0x04_00_02_00_00_00, BEATS);
+    asks::read_in(&[12, 0, 1, 0, 3, 2, 2, 0, 0, 0, 0, 0, 0, 0], BEATS - 1);
+    asks::read_in(&[12, 0, 1, 0, 3, 2, 2, 0, 0, 0, 0, 0, 0, 0], BEATS);
 }
 
 // A record cut at every length, and whole.
@@ -76,11 +78,11 @@ pub fn packed_lengths() {
 
 // Refusals 1 and 2, for both kinds.
 pub fn sizes() {
-    spelled::long(14, 0x0C_00_01_00_21_00_00_00, 0);
+    spelled::numbered(LARGEST + 1, 0, 0);
     spelled::long(14, 0x0C_00_01_00_FF_FF_00_00, 0);
     spelled::long(14, 0x0C_00_01_00_00_01_00_00, 0);
-    spelled::long(14, 0x0C_00_01_00_20_21_00_00, 0);
-    spelled::long(11, 0x09_00_02_00_21_00_FF_FF, 0xFF_FF_80);
+    spelled::numbered(LARGEST, LARGEST + 1, 0);
+    spelled::long(spelled::OVER_SIZE, spelled::OVER + 0xFF_FF, 0xFF_FF_80);
     spelled::read(6, 0x04_00_02_00_FF_00);
     spelled::read(7, 0x05_00_02_00_02_03_C8);
     spelled::read(7, 0x05_00_02_00_00_01_00);
@@ -135,15 +137,16 @@ pub fn numbers() {
     spelled::long(14, 0x0C_00_01_00_01_01_00_00, 0x00_00_00_00_00_80);
 }
 
-// The same for the largest counts, whose forms are 55,534,064,877,048,198.
+// The same for the largest counts.
 pub fn largest_numbers() {
-    spelled::long(14, 0x0C_00_01_00_20_20_85_11, 0xEE_11_F0_4B_C5_00);
-    spelled::long(14, 0x0C_00_01_00_20_20_86_11, 0xEE_11_F0_4B_C5_00);
-    spelled::long(14, 0x0C_00_01_00_20_20_FF_FF, 0xFF_FF_FF_FF_FF_FF);
-    spelled::long(14, 0x0C_00_01_00_20_1F_86_11, 0xEE_11_F0_4B_C5_00);
+    let forms = counts::count(LARGEST, LARGEST).value();
+    spelled::numbered(LARGEST, LARGEST, std::num::wrapping_sub_u64(forms, 1));
+    spelled::numbered(LARGEST, LARGEST, forms);
+    spelled::numbered(LARGEST, LARGEST, 18446744073709551615);
+    spelled::numbered(LARGEST, LARGEST - 1, forms);
 }
 
-// Refusal 5: the first beat, one in the middle, the last one, and one in the second byte.
+// Refusal 5: the first beat, one in the middle, the last one, one in the second byte and one in the last byte.
 pub fn empty_hands() {
     spelled::read(7, 0x05_00_02_00_01_01_40);
     spelled::read(7, 0x05_00_02_00_02_02_90);
@@ -151,7 +154,11 @@ pub fn empty_hands() {
     spelled::read(7, 0x05_00_02_00_03_02_C0);
     spelled::read(8, 0x06_00_02_00_05_04_F0_00);
     spelled::read(8, 0x06_00_02_00_05_05_AA_40);
-    spelled::long(14, 0x0C_00_02_00_20_20_AA_AA, 0xAA_AA_AA_AA_AA_A9);
+    spelled::long(
+        spelled::FULL_SIZE,
+        spelled::FULL + 0xAA_AA,
+        0xAA_AA_AA_AA_AA_AA_AA_A9,
+    );
 }
 
 // Refusal 6: too many ones, and too few.
@@ -160,8 +167,16 @@ pub fn take_ups() {
     spelled::read(7, 0x05_00_02_00_03_02_F0);
     spelled::read(7, 0x05_00_02_00_03_00_C0);
     spelled::read(7, 0x05_00_02_00_04_02_E0);
-    spelled::long(14, 0x0C_00_02_00_20_20_FF_FF, 0xFF_FF_FF_FF_FF_FF);
-    spelled::long(14, 0x0C_00_02_00_20_20_FF_FF, 0xFF_FF_80_00_00_00);
+    spelled::long(
+        spelled::FULL_SIZE,
+        spelled::FULL + 0xFF_FF,
+        0xFF_FF_FF_FF_FF_FF_FF_FF,
+    );
+    spelled::long(
+        spelled::FULL_SIZE,
+        spelled::FULL + 0xAA_AA,
+        0xAA_AA_AA_AA_AA_AA_AA_AB,
+    );
 }
 
 // L is 1,020, which may be, and above, which may not; and bytes after a short record.

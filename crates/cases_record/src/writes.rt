@@ -1,6 +1,7 @@
 // The refusals of writing, with what stands beside them, and their order. The beats are n bytes in hex.
 use crate::asks;
 use crate::spelled;
+use triangle::LARGEST;
 
 // With each kind that there is, and with one that there is not: 10 comes before all others.
 fn ask(t: u64, s: u64, n: usize, word: u64, room: usize) {
@@ -32,13 +33,13 @@ pub fn kinds() {
 
 // Refusals 1 and 2.
 pub fn sizes() {
-    ask(33, 0, 0, 0, 16);
+    ask(LARGEST + 1, 0, 0, 0, 16);
     ask(256, 0, 0, 0, 16);
     ask(257, 1, 2, 0x01_00, 16);
     ask(18446744073709551615, 0, 0, 0, 16);
     ask(0, 1, 1, 0x00, 16);
     ask(2, 3, 5, 0x01_01_00_00_00, 16);
-    ask(32, 33, 0, 0, 16);
+    ask(LARGEST, LARGEST + 1, 0, 0, 16);
     ask(1, 256, 1, 0x01, 16);
     ask(1, 18446744073709551615, 0, 0, 16);
 }
@@ -78,8 +79,8 @@ pub fn rooms() {
 
 // Each refusal before the next.
 pub fn first_refusals() {
-    ask(33, 34, 1, 0x02, 0);
-    ask(33, 0, 0, 0, 0);
+    ask(200, 201, 1, 0x02, 0);
+    ask(200, 0, 0, 0, 0);
     ask(2, 3, 1, 0x02, 0);
     ask(2, 3, 5, 0x01_01_00_00_00, 0);
     ask(2, 2, 3, 0x02_01_00, 0);

@@ -1,5 +1,11 @@
 // One call of either way, printed with its input. The bytes that are lent to be filled are 7 before the call,
 // and the line has them as they are after it.
+use triangle::BEATS;
+use triangle::LARGEST;
+use triangle::SIDE;
+
+// The most bytes that are lent for a schedule: two more than the longest takes.
+pub const ROOM: usize = BEATS + 2;
 
 fn print_number(n: u64) {
     show::text(b" ");
@@ -45,29 +51,29 @@ fn print_back(n: u64, left: &[u8], right: &[u8], parent: &[u8], out: &mut [u8]) 
     show::text(b"\n");
 }
 
-// The tables of a schedule, in tables of so many bytes, each at most 33.
+// The tables of a schedule, in tables of so many bytes, each at most SIDE.
 pub fn tree(n: u64, beats: &[u8], l: usize, r: usize, p: usize) {
-    if 33 < l {
+    if SIDE < l {
         return;
     }
-    if 33 < r {
+    if SIDE < r {
         return;
     }
-    if 33 < p {
+    if SIDE < p {
         return;
     }
-    let mut left = [7u8; 33];
-    let mut right = [7u8; 33];
-    let mut parent = [7u8; 33];
+    let mut left = [7u8; SIDE];
+    let mut right = [7u8; SIDE];
+    let mut parent = [7u8; SIDE];
     print_tree(n, beats, &mut left[..l], &mut right[..r], &mut parent[..p]);
 }
 
-// The schedule of three tables, in so many bytes, at most 66.
+// The schedule of three tables, in so many bytes, at most ROOM.
 pub fn back(n: u64, left: &[u8], right: &[u8], parent: &[u8], length: usize) {
-    if 66 < length {
+    if ROOM < length {
         return;
     }
-    let mut out = [7u8; 66];
+    let mut out = [7u8; ROOM];
     print_back(n, left, right, parent, &mut out[..length]);
 }
 
@@ -78,12 +84,12 @@ fn print_both(n: u64, beats: &[u8], left: &mut [u8], right: &mut [u8], parent: &
 
 // The tables of a schedule, and the schedule of the tables that it got.
 pub fn both(n: u64, beats: &[u8]) {
-    if 32 < n {
+    if LARGEST < n {
         return;
     }
-    let mut left = [7u8; 32];
-    let mut right = [7u8; 32];
-    let mut parent = [7u8; 32];
+    let mut left = [7u8; LARGEST as usize];
+    let mut right = [7u8; LARGEST as usize];
+    let mut parent = [7u8; LARGEST as usize];
     let k = n as usize;
     print_both(n, beats, &mut left[..k], &mut right[..k], &mut parent[..k]);
 }

@@ -1,21 +1,24 @@
 // The refusals of the schedule of three tables, with what stands beside them, and their order.
 use crate::asks;
+use triangle::BEATS;
+use triangle::LARGEST;
+use triangle::SIDE;
 
-// Tables of these lengths, at most 33: those of 1100, and zeros after them.
+// Tables of these lengths, at most SIDE: those of 1100, and zeros after them.
 fn cut(n: u64, l: usize, r: usize, p: usize, length: usize) {
-    if 33 < l {
+    if SIDE < l {
         return;
     }
-    if 33 < r {
+    if SIDE < r {
         return;
     }
-    if 33 < p {
+    if SIDE < p {
         return;
     }
-    let mut left = [0u8; 33];
+    let mut left = [0u8; SIDE];
     left[0] = 2;
-    let right = [0u8; 33];
-    let mut parent = [0u8; 33];
+    let right = [0u8; SIDE];
+    let mut parent = [0u8; SIDE];
     parent[1] = 1;
     asks::back(n, &left[..l], &right[..r], &parent[..p], length);
 }
@@ -23,8 +26,8 @@ fn cut(n: u64, l: usize, r: usize, p: usize, length: usize) {
 // Refusal 1, and the tables of no tasks.
 pub fn sizes() {
     cut(0, 0, 0, 0, 0);
-    cut(33, 33, 33, 33, 66);
-    cut(33, 1, 0, 2, 0);
+    cut(LARGEST + 1, SIDE, SIDE, SIDE, asks::ROOM);
+    cut(200, 1, 0, 2, 0);
     cut(256, 0, 0, 0, 0);
     cut(257, 1, 1, 1, 2);
     cut(9223372036854775808, 0, 0, 0, 0);
@@ -64,14 +67,15 @@ pub fn first_refusals() {
     cut(3, 3, 3, 3, 6);
     cut(3, 3, 3, 3, 7);
     cut(3, 3, 2, 3, 6);
-    cut(32, 32, 32, 32, 64);
-    cut(32, 32, 32, 32, 63);
-    cut(32, 32, 32, 33, 64);
+    let most = LARGEST as usize;
+    cut(LARGEST, most, most, most, BEATS);
+    cut(LARGEST, most, most, most, BEATS - 1);
+    cut(LARGEST, most, most, SIDE, BEATS);
 }
 
-// Three tables of n entries each, the left, the right and the parents one after the other; for n up to 32.
+// Three tables of n entries each, the left, the right and the parents one after the other; for n up to LARGEST.
 fn ask(n: u64, tables: &[u8]) {
-    if 32 < n {
+    if LARGEST < n {
         return;
     }
     let k = n as usize;
@@ -91,7 +95,7 @@ pub fn entries() {
     ask(1, &[0, 0, 2]);
     ask(2, &[2, 3, 0, 0, 0, 1]);
     ask(2, &[2, 0, 0, 255, 0, 1]);
-    ask(2, &[0, 0, 2, 0, 0, 33]);
+    ask(2, &[0, 0, 2, 0, 0, 200]);
 }
 
 // Refusal 8: a circle, a node that is its own child, a node with two parents.
@@ -138,16 +142,16 @@ pub fn unreached() {
     ask(3, &[0, 2, 0, 3, 0, 0, 0, 2, 1]);
 }
 
-// Three tables for 32 tasks in which every entry is the same.
+// Three tables for LARGEST tasks in which every entry is the same.
 fn ask_same(entry: u8) {
-    let table = [entry; 32];
-    asks::back(32, &table, &table, &table, 64);
+    let table = [entry; LARGEST as usize];
+    asks::back(LARGEST, &table, &table, &table, BEATS);
 }
 
 // Refusal 8: the most nodes, and only 0, the root, the last node or the number past it.
 pub fn limits() {
     ask_same(0);
     ask_same(1);
-    ask_same(32);
-    ask_same(33);
+    ask_same(LARGEST as u8);
+    ask_same(LARGEST as u8 + 1);
 }

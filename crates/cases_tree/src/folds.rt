@@ -1,5 +1,7 @@
 // What many calls answered and left, for the lines that stand for many calls.
 use refusal::Verdict;
+use triangle::BEATS;
+use triangle::LARGEST;
 
 // How many calls of the way back were accepted and how many were refused 8, and the digest of every call's
 // verdict and of all bytes that were lent to it, as they are after it.
@@ -59,12 +61,12 @@ fn back_into(
     counted(tally, v.refusal(), show::digest(sum, out))
 }
 
-// Asks for the schedule of three tables, in 2n bytes that are 7; for n up to 32.
+// Asks for the schedule of three tables, in 2n bytes that are 7; for n up to LARGEST.
 pub fn back(tally: Tally, n: u64, left: &[u8], right: &[u8], parent: &[u8]) -> Tally {
-    if 32 < n {
+    if LARGEST < n {
         return tally;
     }
-    let mut out = [7u8; 64];
+    let mut out = [7u8; BEATS];
     let m = (n + n) as usize;
     back_into(tally, n, left, right, parent, &mut out[..m])
 }
@@ -86,14 +88,14 @@ fn both_into(
     back(there, n, left, right, parent)
 }
 
-// Asks for the tables of a schedule, in tables that are 7, and for the schedule of these; for n up to 32.
+// Asks for the tables of a schedule, in tables that are 7, and for the schedule of these; for n up to LARGEST.
 pub fn both(tally: Tally, n: u64, beats: &[u8]) -> Tally {
-    if 32 < n {
+    if LARGEST < n {
         return tally;
     }
-    let mut left = [7u8; 32];
-    let mut right = [7u8; 32];
-    let mut parent = [7u8; 32];
+    let mut left = [7u8; LARGEST as usize];
+    let mut right = [7u8; LARGEST as usize];
+    let mut parent = [7u8; LARGEST as usize];
     let k = n as usize;
     both_into(
         tally,

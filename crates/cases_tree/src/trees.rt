@@ -1,11 +1,14 @@
 // The refusals of the tables of a schedule, with what stands beside them, and their order.
 use crate::asks;
+use triangle::BEATS;
+use triangle::LARGEST;
+use triangle::SIDE;
 
 // Refusal 1, and the schedule of no tasks.
 pub fn sizes() {
     asks::tree(0, &[], 0, 0, 0);
-    asks::tree(33, &[], 33, 33, 33);
-    asks::tree(33, &[2], 1, 0, 2);
+    asks::tree(LARGEST + 1, &[], SIDE, SIDE, SIDE);
+    asks::tree(200, &[2], 1, 0, 2);
     asks::tree(256, &[], 0, 0, 0);
     asks::tree(9223372036854775808, &[], 0, 0, 0);
     asks::tree(18446744073709551615, &[1, 0], 1, 1, 1);
@@ -65,15 +68,16 @@ pub fn first_refusals() {
 
 // As many beats as there may be: the last one at fault, then the first one too, then too many ones.
 pub fn limits() {
-    let mut full = [0u8; 64];
-    show::raise(&mut full, 32);
-    asks::tree(32, &full, 32, 32, 33);
-    full[63] = 7;
-    asks::tree(32, &full, 32, 32, 32);
+    let most = LARGEST as usize;
+    let mut full = [0u8; BEATS];
+    show::raise(&mut full, most);
+    asks::tree(LARGEST, &full, most, most, SIDE);
+    full[BEATS - 1] = 7;
+    asks::tree(LARGEST, &full, most, most, most);
     full[0] = 0;
-    asks::tree(32, &full, 32, 32, 32);
-    full[63] = 0;
-    asks::tree(32, &full, 32, 32, 32);
-    show::raise(&mut full, 33);
-    asks::tree(32, &full, 32, 32, 32);
+    asks::tree(LARGEST, &full, most, most, most);
+    full[BEATS - 1] = 0;
+    asks::tree(LARGEST, &full, most, most, most);
+    show::raise(&mut full, SIDE);
+    asks::tree(LARGEST, &full, most, most, most);
 }

@@ -1,5 +1,7 @@
 // Single steps and runs on both sides of their limits. Each line has the input, the answer and what is
 // left in the lent schedule.
+use triangle::BEATS;
+use triangle::LARGEST;
 
 fn print_input(t: u64, s: u64, beats: &[u8]) {
     show::number(t);
@@ -49,7 +51,7 @@ pub fn steps() {
 
 // The refusals of the step and of the run in their order, with what is left.
 pub fn refusals() {
-    ask(33, 0, &mut [1, 1]);
+    ask(LARGEST + 1, 0, &mut [1, 1]);
     ask(2, 3, &mut [1, 1, 0, 0, 0]);
     ask(3, 2, &mut [1, 1, 0, 1]);
     ask(3, 2, &mut [1, 1, 0, 2, 0]);
@@ -79,9 +81,9 @@ pub fn long() {
     ask_run(3, 2, &mut [1, 1, 1, 0, 0], 65535);
     ask_run(0, 0, &mut [], 65535);
     ask_run(0, 0, &mut [], 65536);
-    let mut full = [0u8; 64];
-    show::raise(&mut full, 32);
-    ask_run(32, 32, &mut full, 65535);
-    ask_run(32, 32, &mut full, 65536);
-    ask_run(32, 32, &mut full, 65535);
+    let mut full = [0u8; BEATS];
+    show::raise(&mut full, LARGEST as usize);
+    ask_run(LARGEST, LARGEST, &mut full, 65535);
+    ask_run(LARGEST, LARGEST, &mut full, 65536);
+    ask_run(LARGEST, LARGEST, &mut full, 65535);
 }

@@ -8,7 +8,8 @@ use Rattle.cases_ground.proofs.tables.accepted.Statement.{statement}
 use Rattle.cases_ground.proofs.tables.accepted.Tie as tie
 
 abbrev Inv-loop : tie.InvT-loop
-Inv-loop t s beats₀ words found₀ word₀ beats found word = (length beats ≡ length beats₀) × (found ≤ word) × (word ≤ words)
+Inv-loop t s beats₀ words found₀ word₀ beats found word =
+    (length beats ≡ length beats₀) × (found ≤ word) × (word ≤ words)
 
 abbrev μ-loop : tie.MeasureT-loop
 μ-loop t s beats₀ words found₀ word₀ beats found word = words - word

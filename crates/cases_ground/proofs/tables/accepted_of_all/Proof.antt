@@ -22,7 +22,8 @@ array-borrow-prefix-beats c = search needs
 
 slice-aggregate-accepted : tie.Need-slice-aggregate-accepted
 slice-aggregate-accepted c =
-    let args = c .before .before .before .args in sym (length-take-le (args .t + args .s) (replicate {A = ℕ} 16 0) (omega arith))
+    let args = c .before .before .before .args in
+    sym (length-take-le (args .t + args .s) (replicate {A = ℕ} 16 0) (omega arith))
 
 add-accepted : tie.Need-add-accepted
 add-accepted c = search needs

@@ -1,14 +1,15 @@
 -- `cases_ground::tables::count_row` is safe and ends: the column stays inside the table. Assumes nothing.
 use borrow.Author.Needs.{needs}
-use Prim.Native.Nat.{_≤_, _-_}
+use Prim.Native.Nat.{_≤_, _+_, _-_}
+use Rattle.triangle.specs.Count.{largest}
 use Rattle.cases_ground.proofs.tables.count_row.Statement.{statement}
 use Rattle.cases_ground.proofs.tables.count_row.Tie as tie
 
 abbrev Inv-loop : tie.InvT-loop
-Inv-loop t s₀ t5 t6 s = s ≤ 33
+Inv-loop t s₀ t5 t6 s = s ≤ largest + 1
 
 abbrev μ-loop : tie.MeasureT-loop
-μ-loop t s₀ t5 t6 s = 33 - s
+μ-loop t s₀ t5 t6 s = largest + 1 - s
 
 slice-aggregate-text : tie.Need-slice-aggregate-text Inv-loop μ-loop
 slice-aggregate-text c = search needs

@@ -1,14 +1,15 @@
 -- `cases_ground::tables::counts` is safe and ends: the row stays inside the table. Assumes nothing.
 use borrow.Author.Needs.{needs}
-use Prim.Native.Nat.{_≤_, _-_}
+use Prim.Native.Nat.{_≤_, _+_, _-_}
+use Rattle.triangle.specs.Count.{largest}
 use Rattle.cases_ground.proofs.tables.counts.Statement.{statement}
 use Rattle.cases_ground.proofs.tables.counts.Tie as tie
 
 abbrev Inv-loop : tie.InvT-loop
-Inv-loop t₀ t = t ≤ 33
+Inv-loop t₀ t = t ≤ largest + 1
 
 abbrev μ-loop : tie.MeasureT-loop
-μ-loop t₀ t = 33 - t
+μ-loop t₀ t = largest + 1 - t
 
 loop-holds : tie.Need-loop-holds Inv-loop μ-loop
 loop-holds c = search needs

@@ -7,7 +7,8 @@ use Rattle.cases_ground.proofs.tables.spell.Statement.{statement}
 use Rattle.cases_ground.proofs.tables.spell.Tie as tie
 
 abbrev Inv-loop : tie.InvT-loop
-Inv-loop word beats₀ rest₀ i₀ i-end beats rest i = (length beats ≡ length beats₀) × (i ≤ length beats₀) × (i-end ≡ length beats₀)
+Inv-loop word beats₀ rest₀ i₀ i-end beats rest i =
+    (length beats ≡ length beats₀) × (i ≤ length beats₀) × (i-end ≡ length beats₀)
 
 abbrev μ-loop : tie.MeasureT-loop
 μ-loop word beats₀ rest₀ i₀ i-end beats rest i = length beats₀ - i

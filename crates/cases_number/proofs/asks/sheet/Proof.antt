@@ -1,10 +1,11 @@
--- `cases_number::asks::sheet` is safe and ends: the bytes are at most 64. Assumes nothing.
+-- `cases_number::asks::sheet` is safe and ends: the bytes are at most mostBeats. Assumes nothing.
 use mathlib.Core.Path.{sym}
 use Prim.Native.Nat.{ℕ}
 use native.Mathlib.Omega.{arith}
 use lib.ListN.{replicate}
 use lib.Seq.{length-take-le}
 use borrow.Author.Needs.{needs}
+use Rattle.triangle.specs.Count.{mostBeats}
 use Rattle.cases_number.proofs.asks.sheet.Statement.{statement}
 use Rattle.cases_number.proofs.asks.sheet.Tie as tie
 
@@ -15,7 +16,8 @@ array-borrow-prefix-bytes : tie.Need-array-borrow-prefix-bytes
 array-borrow-prefix-bytes c = search needs
 
 slice-aggregate-print-sheet : tie.Need-slice-aggregate-print-sheet
-slice-aggregate-print-sheet c = sym (length-take-le (c .before .before .args .length) (replicate {A = ℕ} 64 7) (omega arith))
+slice-aggregate-print-sheet c =
+    sym (length-take-le (c .before .before .args .length) (replicate {A = ℕ} mostBeats 7) (omega arith))
 
 print-sheet-requires : tie.Need-print-sheet-requires
 print-sheet-requires c κs = search needs

@@ -1,4 +1,5 @@
--- `cases_number::numbers::ask_in_order` is safe and ends. The invariant: the schedule keeps its length. Assumes nothing.
+-- `cases_number::numbers::ask_in_order` is safe and ends. The invariant: the schedule keeps its
+-- length. Assumes nothing.
 use borrow.Author.Needs.{needs}
 use Prim.Native.Nat.{_≤_, _-_}
 use lib.ListN.{length}

@@ -21,7 +21,9 @@ array-borrow-prefix-beats : tie.Need-array-borrow-prefix-beats
 array-borrow-prefix-beats c = search needs
 
 slice-aggregate-ask-from-top : tie.Need-slice-aggregate-ask-from-top
-slice-aggregate-ask-from-top c = let args = c .before .before .before .args in sym (length-take-le (args .t + args .s) (replicate {A = ℕ} 16 0) (omega arith))
+slice-aggregate-ask-from-top c =
+    let args = c .before .before .before .args in
+    sym (length-take-le (args .t + args .s) (replicate {A = ℕ} 16 0) (omega arith))
 
 ask-from-top-requires : tie.Need-ask-from-top-requires
 ask-from-top-requires c κs = search needs

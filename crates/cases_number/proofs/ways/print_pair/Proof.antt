@@ -1,10 +1,11 @@
--- `cases_number::ways::print_pair` is safe and ends: t + s beats are at most 64. Assumes nothing.
+-- `cases_number::ways::print_pair` is safe and ends: t + s beats are at most mostBeats. Assumes nothing.
 use mathlib.Core.Path.{sym}
 use Prim.Native.Nat.{ℕ, _+_}
 use native.Mathlib.Omega.{arith}
 use lib.ListN.{replicate}
 use lib.Seq.{length-take-le}
 use borrow.Author.Needs.{needs}
+use Rattle.triangle.specs.Count.{mostBeats}
 use Rattle.cases_number.proofs.ways.print_pair.Statement.{statement}
 use Rattle.cases_number.proofs.ways.print_pair.Tie as tie
 
@@ -21,7 +22,9 @@ array-borrow-prefix-beats : tie.Need-array-borrow-prefix-beats
 array-borrow-prefix-beats c = search needs
 
 slice-aggregate-print-line : tie.Need-slice-aggregate-print-line
-slice-aggregate-print-line c = let args = c .before .before .before .args in sym (length-take-le (args .t + args .s) (replicate {A = ℕ} 64 7) (omega arith))
+slice-aggregate-print-line c =
+    let args = c .before .before .before .args in
+    sym (length-take-le (args .t + args .s) (replicate {A = ℕ} mostBeats 7) (omega arith))
 
 print-line-requires : tie.Need-print-line-requires
 print-line-requires c κs = search needs

@@ -1,14 +1,15 @@
 -- `cases_number::ways::print_row` is safe and ends: the column stays in the row. Assumes nothing.
 use borrow.Author.Needs.{needs}
-use Prim.Native.Nat.{_≤_, _-_}
+use Prim.Native.Nat.{_≤_, _+_, _-_}
+use Rattle.triangle.specs.Count.{largest}
 use Rattle.cases_number.proofs.ways.print_row.Statement.{statement}
 use Rattle.cases_number.proofs.ways.print_row.Tie as tie
 
 abbrev Inv-loop : tie.InvT-loop
-Inv-loop t every s₀ s = s ≤ 33
+Inv-loop t every s₀ s = s ≤ largest + 1
 
 abbrev μ-loop : tie.MeasureT-loop
-μ-loop t every s₀ s = 33 - s
+μ-loop t every s₀ s = largest + 1 - s
 
 loop-holds : tie.Need-loop-holds Inv-loop μ-loop
 loop-holds c = search needs

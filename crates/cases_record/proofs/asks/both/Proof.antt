@@ -15,7 +15,9 @@ array-borrow-prefix-out : tie.Need-array-borrow-prefix-out
 array-borrow-prefix-out c = search needs
 
 slice-aggregate-print-both : tie.Need-slice-aggregate-print-both
-slice-aggregate-print-both c = let args = c .before .before .before .args in sym (length-take-le (args .room) (replicate {A = ℕ} 20 7) (omega arith))
+slice-aggregate-print-both c =
+    let args = c .before .before .before .args in
+    sym (length-take-le (args .room) (replicate {A = ℕ} 20 7) (omega arith))
 
 print-both-requires : tie.Need-print-both-requires
 print-both-requires c κs = search needs

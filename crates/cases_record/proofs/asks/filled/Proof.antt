@@ -15,7 +15,9 @@ array-borrow-prefix-src : tie.Need-array-borrow-prefix-src
 array-borrow-prefix-src c = search needs
 
 slice-aggregate-print-filled : tie.Need-slice-aggregate-print-filled
-slice-aggregate-print-filled c = let args = c .before .before .before .args in sym (length-take-le (args .length) (replicate {A = ℕ} 1030 0) (omega arith))
+slice-aggregate-print-filled c =
+    let args = c .before .before .before .args in
+    sym (length-take-le (args .length) (replicate {A = ℕ} 1030 0) (omega arith))
 
 print-filled-requires : tie.Need-print-filled-requires
 print-filled-requires c κs = search needs

@@ -7,7 +7,8 @@ use Rattle.cases_record.proofs.asks.put.Statement.{statement}
 use Rattle.cases_record.proofs.asks.put.Tie as tie
 
 abbrev Inv-loop : tie.InvT-loop
-Inv-loop head bytes₀ i₀ i-end bytes i = (length bytes ≡ length bytes₀) × (i ≤ length head) × (i-end ≡ length head) × (length head ≤ length bytes₀)
+Inv-loop head bytes₀ i₀ i-end bytes i =
+    (length bytes ≡ length bytes₀) × (i ≤ length head) × (i-end ≡ length head) × (length head ≤ length bytes₀)
 
 abbrev μ-loop : tie.MeasureT-loop
 μ-loop head bytes₀ i₀ i-end bytes i = length head - i

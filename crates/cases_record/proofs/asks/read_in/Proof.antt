@@ -1,10 +1,11 @@
--- `cases_record::asks::read_in` is safe and ends: the places are at most 66. Assumes nothing.
+-- `cases_record::asks::read_in` is safe and ends: the places are at most mostBeats + 2. Assumes nothing.
 use borrow.Author.Needs.{needs}
 use mathlib.Core.Path.{sym}
 use Prim.Native.Nat.{ℕ, _+_}
 use native.Mathlib.Omega.{arith}
 use lib.ListN.{replicate}
 use lib.Seq.{length-take-le}
+use Rattle.triangle.specs.Count.{mostBeats}
 use Rattle.cases_record.proofs.asks.read_in.Statement.{statement}
 use Rattle.cases_record.proofs.asks.read_in.Tie as tie
 
@@ -15,7 +16,9 @@ array-borrow-prefix-out : tie.Need-array-borrow-prefix-out
 array-borrow-prefix-out c = search needs
 
 slice-aggregate-print-read : tie.Need-slice-aggregate-print-read
-slice-aggregate-print-read c = let args = c .before .before .before .args in sym (length-take-le (args .room) (replicate {A = ℕ} 66 7) (omega arith))
+slice-aggregate-print-read c =
+    let args = c .before .before .before .args in
+    sym (length-take-le (args .room) (replicate {A = ℕ} (mostBeats + 2) 7) (omega arith))
 
 print-read-requires : tie.Need-print-read-requires
 print-read-requires c κs = search needs

@@ -15,7 +15,9 @@ array-borrow-prefix-out : tie.Need-array-borrow-prefix-out
 array-borrow-prefix-out c = search needs
 
 slice-aggregate-print-write : tie.Need-slice-aggregate-print-write
-slice-aggregate-print-write c = let args = c .before .before .before .args in sym (length-take-le (args .room) (replicate {A = ℕ} 20 7) (omega arith))
+slice-aggregate-print-write c =
+    let args = c .before .before .before .args in
+    sym (length-take-le (args .room) (replicate {A = ℕ} 20 7) (omega arith))
 
 print-write-requires : tie.Need-print-write-requires
 print-write-requires c κs = search needs

@@ -1,10 +1,11 @@
--- `cases_record::backs::ask_pair` is safe and ends: t + s beats are at most 64. Assumes nothing.
+-- `cases_record::backs::ask_pair` is safe and ends: t + s beats are at most mostBeats. Assumes nothing.
 use borrow.Author.Needs.{needs}
 use mathlib.Core.Path.{sym}
 use Prim.Native.Nat.{ℕ, _+_}
 use native.Mathlib.Omega.{arith}
 use lib.ListN.{replicate}
 use lib.Seq.{length-take-le}
+use Rattle.triangle.specs.Count.{mostBeats}
 use Rattle.cases_record.proofs.backs.ask_pair.Statement.{statement}
 use Rattle.cases_record.proofs.backs.ask_pair.Tie as tie
 
@@ -27,7 +28,9 @@ array-borrow-prefix-beats : tie.Need-array-borrow-prefix-beats
 array-borrow-prefix-beats c = search needs
 
 slice-aggregate-ask-scattered : tie.Need-slice-aggregate-ask-scattered
-slice-aggregate-ask-scattered c = let args = c .before .before .before .before .before .args in sym (length-take-le (args .t + args .s) (replicate {A = ℕ} 64 7) (omega arith))
+slice-aggregate-ask-scattered c =
+    let args = c .before .before .before .before .before .args in
+    sym (length-take-le (args .t + args .s) (replicate {A = ℕ} mostBeats 7) (omega arith))
 
 ask-scattered-requires : tie.Need-ask-scattered-requires
 ask-scattered-requires c κs = search needs

@@ -1,4 +1,5 @@
--- `cases_record::backs::ask_scattered` is safe and ends. The invariant: the lent beats keep their length. Assumes nothing.
+-- `cases_record::backs::ask_scattered` is safe and ends. The invariant: the lent beats keep their
+-- length. Assumes nothing.
 use borrow.Author.Needs.{needs}
 use Prim.Native.Nat.{_≤_, _-_}
 use lib.ListN.{length}
@@ -7,7 +8,8 @@ use Rattle.cases_record.proofs.backs.ask_scattered.Statement.{statement
 use Rattle.cases_record.proofs.backs.ask_scattered.Tie as tie
 
 abbrev Inv-loop : tie.InvT-loop
-Inv-loop t s forms beats₀ tally₀ seed₀ counter₀ beats tally seed counter = (length beats ≡ length beats₀) × (counter ≤ 4)
+Inv-loop t s forms beats₀ tally₀ seed₀ counter₀ beats tally seed counter =
+    (length beats ≡ length beats₀) × (counter ≤ 4)
 
 abbrev μ-loop : tie.MeasureT-loop
 μ-loop t s forms beats₀ tally₀ seed₀ counter₀ beats tally seed counter = 4 - counter

@@ -21,7 +21,9 @@ array-borrow-prefix-beats : tie.Need-array-borrow-prefix-beats
 array-borrow-prefix-beats c = search needs
 
 slice-aggregate-print-forms : tie.Need-slice-aggregate-print-forms
-slice-aggregate-print-forms c = let args = c .before .before .before .args in sym (length-take-le (args .t + args .s) (replicate {A = ℕ} 14 7) (omega arith))
+slice-aggregate-print-forms c =
+    let args = c .before .before .before .args in
+    sym (length-take-le (args .t + args .s) (replicate {A = ℕ} 14 7) (omega arith))
 
 print-forms-requires : tie.Need-print-forms-requires
 print-forms-requires c κs = search needs

@@ -1,10 +1,11 @@
--- `cases_record::changes::print_record` is safe and ends: t + s beats are at most 64, and the bytes at most 20. Assumes nothing.
+-- `cases_record::changes::print_record` is safe and ends: at most mostBeats beats, at most 20 bytes. Assumes nothing.
 use borrow.Author.Needs.{needs}
 use mathlib.Core.Path.{sym}
 use Prim.Native.Nat.{ℕ, _+_}
 use native.Mathlib.Omega.{arith}
 use lib.ListN.{replicate}
 use lib.Seq.{length-take-le}
+use Rattle.triangle.specs.Count.{mostBeats}
 use Rattle.cases_record.proofs.changes.print_record.Statement.{statement}
 use Rattle.cases_record.proofs.changes.print_record.Tie as tie
 
@@ -24,13 +25,17 @@ array-borrow-prefix-beats : tie.Need-array-borrow-prefix-beats
 array-borrow-prefix-beats c = search needs
 
 slice-aggregate-print-written : tie.Need-slice-aggregate-print-written
-slice-aggregate-print-written c = let args = c .before .before .before .before .args in sym (length-take-le (args .t + args .s) (replicate {A = ℕ} 64 7) (omega arith))
+slice-aggregate-print-written c =
+    let args = c .before .before .before .before .args in
+    sym (length-take-le (args .t + args .s) (replicate {A = ℕ} mostBeats 7) (omega arith))
 
 array-borrow-prefix-bytes : tie.Need-array-borrow-prefix-bytes
 array-borrow-prefix-bytes c = search needs
 
 slice-aggregate-print-written-2 : tie.Need-slice-aggregate-print-written-2
-slice-aggregate-print-written-2 c = let args = c .before .before .before .before .before .args in sym (length-take-le (args .room) (replicate {A = ℕ} 20 7) (omega arith))
+slice-aggregate-print-written-2 c =
+    let args = c .before .before .before .before .before .args in
+    sym (length-take-le (args .room) (replicate {A = ℕ} 20 7) (omega arith))
 
 print-written-requires : tie.Need-print-written-requires
 print-written-requires c κs = search needs

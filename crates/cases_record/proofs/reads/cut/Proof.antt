@@ -19,7 +19,9 @@ loop-holds : tie.Need-loop-holds Inv-loop μ-loop
 loop-holds c = search needs
 
 slice-aggregate-read : tie.Need-slice-aggregate-read Inv-loop μ-loop
-slice-aggregate-read c = let e = c .before .before in sym (length-take-le (e .loop .n) (e .before .before .args .src .now) (omega (arith, e .loop .inv .0)))
+slice-aggregate-read c =
+    let e = c .before .before in
+    sym (length-take-le (e .loop .n) (e .before .before .args .src .now) (omega (arith, e .loop .inv .0)))
 
 read-requires : tie.Need-read-requires Inv-loop μ-loop
 read-requires c κs = search needs

@@ -15,7 +15,9 @@ array-borrow-prefix-head : tie.Need-array-borrow-prefix-head
 array-borrow-prefix-head c = search needs
 
 slice-aggregate-print-filled : tie.Need-slice-aggregate-print-filled
-slice-aggregate-print-filled c = let args = c .before .before .args in sym (length-take-le (args .n) (replicate {A = ℕ} 8 0) (omega arith))
+slice-aggregate-print-filled c =
+    let args = c .before .before .args in
+    sym (length-take-le (args .n) (replicate {A = ℕ} 8 0) (omega arith))
 
 print-filled-requires : tie.Need-print-filled-requires
 print-filled-requires c κs = search needs

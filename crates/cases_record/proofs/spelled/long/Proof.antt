@@ -15,7 +15,9 @@ array-borrow-prefix-src : tie.Need-array-borrow-prefix-src
 array-borrow-prefix-src c = search needs
 
 slice-aggregate-print-long : tie.Need-slice-aggregate-print-long
-slice-aggregate-print-long c = let args = c .before .before .args in sym (length-take-le (args .n) (replicate {A = ℕ} 16 0) (omega arith))
+slice-aggregate-print-long c =
+    let args = c .before .before .args in
+    sym (length-take-le (args .n) (replicate {A = ℕ} 16 0) (omega arith))
 
 print-long-requires : tie.Need-print-long-requires
 print-long-requires c κs = search needs

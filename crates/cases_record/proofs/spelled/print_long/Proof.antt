@@ -13,7 +13,9 @@ slice-relend-prefix-spell : tie.Need-slice-relend-prefix-spell
 slice-relend-prefix-spell c = search needs
 
 slice-aggregate-spell : tie.Need-slice-aggregate-spell
-slice-aggregate-spell c = let args = c .before .before .before .args in sym (length-take-le (8) (args .src .now) (omega arith))
+slice-aggregate-spell c =
+    let args = c .before .before .before .args in
+    sym (length-take-le (8) (args .src .now) (omega arith))
 
 spell-requires : tie.Need-spell-requires
 spell-requires c κs = search needs

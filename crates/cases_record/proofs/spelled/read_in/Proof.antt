@@ -15,7 +15,9 @@ array-borrow-prefix-src : tie.Need-array-borrow-prefix-src
 array-borrow-prefix-src c = search needs
 
 slice-aggregate-print-read : tie.Need-slice-aggregate-print-read
-slice-aggregate-print-read c = let args = c .before .before .args in sym (length-take-le (args .n) (replicate {A = ℕ} 8 0) (omega arith))
+slice-aggregate-print-read c =
+    let args = c .before .before .args in
+    sym (length-take-le (args .n) (replicate {A = ℕ} 8 0) (omega arith))
 
 print-read-requires : tie.Need-print-read-requires
 print-read-requires c κs = search needs

@@ -7,7 +7,8 @@ use Rattle.cases_record.proofs.spelled.spell.Statement.{statement}
 use Rattle.cases_record.proofs.spelled.spell.Tie as tie
 
 abbrev Inv-loop : tie.InvT-loop
-Inv-loop word bytes₀ rest₀ i₀ i-end bytes rest i = (length bytes ≡ length bytes₀) × (i ≤ length bytes₀) × (i-end ≡ length bytes₀)
+Inv-loop word bytes₀ rest₀ i₀ i-end bytes rest i =
+    (length bytes ≡ length bytes₀) × (i ≤ length bytes₀) × (i-end ≡ length bytes₀)
 
 abbrev μ-loop : tie.MeasureT-loop
 μ-loop word bytes₀ rest₀ i₀ i-end bytes rest i = length bytes₀ - i

@@ -15,7 +15,9 @@ array-borrow-prefix-beats : tie.Need-array-borrow-prefix-beats
 array-borrow-prefix-beats c = search needs
 
 slice-aggregate-print-write : tie.Need-slice-aggregate-print-write
-slice-aggregate-print-write c = let args = c .before .before .args in sym (length-take-le (args .n) (replicate {A = ℕ} 8 0) (omega arith))
+slice-aggregate-print-write c =
+    let args = c .before .before .args in
+    sym (length-take-le (args .n) (replicate {A = ℕ} 8 0) (omega arith))
 
 print-write-requires : tie.Need-print-write-requires
 print-write-requires c κs = search needs

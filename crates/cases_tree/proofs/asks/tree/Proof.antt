@@ -1,10 +1,11 @@
--- `cases_tree::asks::tree` is safe and ends: the tables have at most 33 bytes each. Assumes nothing.
+-- `cases_tree::asks::tree` is safe and ends: the tables have at most largest + 1 bytes each. Assumes nothing.
 use mathlib.Core.Path.{sym}
-use Prim.Native.Nat.{ℕ}
+use Prim.Native.Nat.{ℕ, _+_}
 use native.Mathlib.Omega.{arith}
 use lib.ListN.{replicate}
 use lib.Seq.{length-take-le}
 use borrow.Author.Needs.{needs}
+use Rattle.triangle.specs.Count.{largest}
 use Rattle.cases_tree.proofs.asks.tree.Statement.{statement}
 use Rattle.cases_tree.proofs.asks.tree.Tie as tie
 
@@ -21,19 +22,25 @@ array-borrow-prefix-left : tie.Need-array-borrow-prefix-left
 array-borrow-prefix-left c = search needs
 
 slice-aggregate-print-tree : tie.Need-slice-aggregate-print-tree
-slice-aggregate-print-tree c = sym (length-take-le (c .before .before .before .before .before .args .l) (replicate {A = ℕ} 33 7) (omega arith))
+slice-aggregate-print-tree c =
+    let args = c .before .before .before .before .before .args in
+    sym (length-take-le (args .l) (replicate {A = ℕ} (largest + 1) 7) (omega arith))
 
 array-borrow-prefix-right : tie.Need-array-borrow-prefix-right
 array-borrow-prefix-right c = search needs
 
 slice-aggregate-print-tree-2 : tie.Need-slice-aggregate-print-tree-2
-slice-aggregate-print-tree-2 c = sym (length-take-le (c .before .before .before .before .before .before .args .r) (replicate {A = ℕ} 33 7) (omega arith))
+slice-aggregate-print-tree-2 c =
+    let args = c .before .before .before .before .before .before .args in
+    sym (length-take-le (args .r) (replicate {A = ℕ} (largest + 1) 7) (omega arith))
 
 array-borrow-prefix-parent : tie.Need-array-borrow-prefix-parent
 array-borrow-prefix-parent c = search needs
 
 slice-aggregate-print-tree-3 : tie.Need-slice-aggregate-print-tree-3
-slice-aggregate-print-tree-3 c = sym (length-take-le (c .before .before .before .before .before .before .before .args .p) (replicate {A = ℕ} 33 7) (omega arith))
+slice-aggregate-print-tree-3 c =
+    let args = c .before .before .before .before .before .before .before .args in
+    sym (length-take-le (args .p) (replicate {A = ℕ} (largest + 1) 7) (omega arith))
 
 print-tree-requires : tie.Need-print-tree-requires
 print-tree-requires c κs = search needs

@@ -19,7 +19,9 @@ returns-2 : tie.Need-returns-2
 returns-2 c = search needs
 
 slice-aggregate-back : tie.Need-slice-aggregate-back
-slice-aggregate-back c = let args = c .before .before .before .before .args in sym (length-take-le (args .n) (args .tables .now) (omega arith))
+slice-aggregate-back c =
+    let args = c .before .before .before .before .args in
+    sym (length-take-le (args .n) (args .tables .now) (omega arith))
 
 sub-back : tie.Need-sub-back
 sub-back c = search needs

@@ -1,4 +1,5 @@
--- `cases_tree::combinations::print_words` is safe and ends. The invariant: the tables keep their lengths. Assumes nothing.
+-- `cases_tree::combinations::print_words` is safe and ends. The invariant: the tables keep their
+-- lengths. Assumes nothing.
 use borrow.Author.Needs.{needs}
 use Prim.Native.Nat.{_≤_, _-_}
 use lib.ListN.{length}
@@ -7,7 +8,8 @@ use Rattle.cases_tree.proofs.combinations.print_words.Statement.{statem
 use Rattle.cases_tree.proofs.combinations.print_words.Tie as tie
 
 abbrev Inv-loop : tie.InvT-loop
-Inv-loop n words left₀ right₀ parent₀ tally₀ word₀ t8 t9 left right parent tally word = (length left ≡ length left₀) × (length right ≡ length right₀) × (length parent ≡ length parent₀) × (word ≤ words)
+Inv-loop n words left₀ right₀ parent₀ tally₀ word₀ t8 t9 left right parent tally word =
+    (length left ≡ length left₀) × (length right ≡ length right₀) × (length parent ≡ length parent₀) × (word ≤ words)
 
 abbrev μ-loop : tie.MeasureT-loop
 μ-loop n words left₀ right₀ parent₀ tally₀ word₀ t8 t9 left right parent tally word = words - word

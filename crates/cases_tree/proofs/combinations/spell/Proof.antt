@@ -7,7 +7,8 @@ use Rattle.cases_tree.proofs.combinations.spell.Statement.{statement}
 use Rattle.cases_tree.proofs.combinations.spell.Tie as tie
 
 abbrev Inv-loop : tie.InvT-loop
-Inv-loop word table₀ rest₀ i₀ i-end table rest i = (length table ≡ length table₀) × (i ≤ length table₀) × (i-end ≡ length table₀)
+Inv-loop word table₀ rest₀ i₀ i-end table rest i =
+    (length table ≡ length table₀) × (i ≤ length table₀) × (i-end ≡ length table₀)
 
 abbrev μ-loop : tie.MeasureT-loop
 μ-loop word table₀ rest₀ i₀ i-end table rest i = length table₀ - i

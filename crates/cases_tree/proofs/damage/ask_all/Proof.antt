@@ -1,14 +1,15 @@
 -- `cases_tree::damage::ask_all` is safe and ends. The invariant: the case is at most the last. Assumes nothing.
 use borrow.Author.Needs.{needs}
-use Prim.Native.Nat.{_≤_, _-_}
+use Prim.Native.Nat.{_≤_, _*_, _-_}
+use Rattle.triangle.specs.Count.{largest}
 use Rattle.cases_tree.proofs.damage.ask_all.Statement.{statement}
 use Rattle.cases_tree.proofs.damage.ask_all.Tie as tie
 
 abbrev Inv-loop : tie.InvT-loop
-Inv-loop left₀ right₀ parent₀ tally₀ case₀ left right parent tally case = case ≤ 672
+Inv-loop left₀ right₀ parent₀ tally₀ case₀ left right parent tally case = case ≤ 21 * largest
 
 abbrev μ-loop : tie.MeasureT-loop
-μ-loop left₀ right₀ parent₀ tally₀ case₀ left right parent tally case = 672 - case
+μ-loop left₀ right₀ parent₀ tally₀ case₀ left right parent tally case = 21 * largest - case
 
 none-requires : tie.Need-none-requires Inv-loop μ-loop
 none-requires c κs = search needs

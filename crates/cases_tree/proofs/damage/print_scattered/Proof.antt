@@ -1,13 +1,14 @@
--- `cases_tree::damage::print_scattered` is safe and ends. The invariant: there are 64 beats. Assumes nothing.
+-- `cases_tree::damage::print_scattered` is safe and ends. The invariant: there are mostBeats beats. Assumes nothing.
 use borrow.Author.Needs.{needs}
 use Prim.Native.Nat.{_≤_, _-_}
 use lib.ListN.{length}
 use mathlib.Core.Path.{_≡_}
+use Rattle.triangle.specs.Count.{mostBeats}
 use Rattle.cases_tree.proofs.damage.print_scattered.Statement.{statement}
 use Rattle.cases_tree.proofs.damage.print_scattered.Tie as tie
 
 abbrev Inv-loop : tie.InvT-loop
-Inv-loop forms beats₀ seed₀ counter₀ beats seed counter = (length beats ≡ 64) × (counter ≤ 10)
+Inv-loop forms beats₀ seed₀ counter₀ beats seed counter = (length beats ≡ mostBeats) × (counter ≤ 10)
 
 abbrev μ-loop : tie.MeasureT-loop
 μ-loop forms beats₀ seed₀ counter₀ beats seed counter = 10 - counter

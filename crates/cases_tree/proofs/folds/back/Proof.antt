@@ -1,10 +1,11 @@
--- `cases_tree::folds::back` is safe and ends: 2n bytes are at most 64. Assumes nothing.
+-- `cases_tree::folds::back` is safe and ends: 2n bytes are at most mostBeats. Assumes nothing.
 use mathlib.Core.Path.{sym}
 use Prim.Native.Nat.{ℕ, _+_}
 use native.Mathlib.Omega.{arith}
 use lib.ListN.{replicate}
 use lib.Seq.{length-take-le}
 use borrow.Author.Needs.{needs}
+use Rattle.triangle.specs.Count.{mostBeats}
 use Rattle.cases_tree.proofs.folds.back.Statement.{statement}
 use Rattle.cases_tree.proofs.folds.back.Tie as tie
 
@@ -18,7 +19,9 @@ array-borrow-prefix-out : tie.Need-array-borrow-prefix-out
 array-borrow-prefix-out c = search needs
 
 slice-aggregate-back-into : tie.Need-slice-aggregate-back-into
-slice-aggregate-back-into c = let args = c .before .before .before .before .before .args in sym (length-take-le (args .n + args .n) (replicate {A = ℕ} 64 7) (omega arith))
+slice-aggregate-back-into c =
+    let args = c .before .before .before .before .before .args in
+    sym (length-take-le (args .n + args .n) (replicate {A = ℕ} mostBeats 7) (omega arith))
 
 back-into-requires : tie.Need-back-into-requires
 back-into-requires c κs = search needs

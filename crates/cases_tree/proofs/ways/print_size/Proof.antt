@@ -18,7 +18,9 @@ array-borrow-prefix-beats : tie.Need-array-borrow-prefix-beats
 array-borrow-prefix-beats c = search needs
 
 slice-aggregate-print-each : tie.Need-slice-aggregate-print-each
-slice-aggregate-print-each c = let args = c .before .before .before .args in sym (length-take-le (args .n + args .n) (replicate {A = ℕ} 14 7) (omega arith))
+slice-aggregate-print-each c =
+    let args = c .before .before .before .args in
+    sym (length-take-le (args .n + args .n) (replicate {A = ℕ} 14 7) (omega arith))
 
 print-each-requires : tie.Need-print-each-requires
 print-each-requires c κs = search needs
@@ -27,7 +29,9 @@ array-borrow-prefix-beats-2 : tie.Need-array-borrow-prefix-beats-2
 array-borrow-prefix-beats-2 c = search needs
 
 slice-aggregate-print-digest : tie.Need-slice-aggregate-print-digest
-slice-aggregate-print-digest c = let args = c .before .before .before .args in sym (length-take-le (args .n + args .n) (replicate {A = ℕ} 14 7) (omega arith))
+slice-aggregate-print-digest c =
+    let args = c .before .before .before .args in
+    sym (length-take-le (args .n + args .n) (replicate {A = ℕ} 14 7) (omega arith))
 
 print-digest-requires : tie.Need-print-digest-requires
 print-digest-requires c κs = search needs

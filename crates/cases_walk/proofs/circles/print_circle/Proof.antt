@@ -22,7 +22,8 @@ array-borrow-prefix-beats c = search needs
 
 slice-aggregate-print-from-top : tie.Need-slice-aggregate-print-from-top
 slice-aggregate-print-from-top c =
-    let args = c .before .before .before .args in sym (length-take-le (args .t + args .s) (replicate {A = ℕ} 16 0) (omega arith))
+    let args = c .before .before .before .args in
+    sym (length-take-le (args .t + args .s) (replicate {A = ℕ} 16 0) (omega arith))
 
 print-from-top-requires : tie.Need-print-from-top-requires
 print-from-top-requires c κs = search needs

@@ -7,7 +7,8 @@ use Rattle.cases_walk.proofs.circles.print_round.Statement.{statement}
 use Rattle.cases_walk.proofs.circles.print_round.Tie as tie
 
 abbrev Inv-loop : tie.InvT-loop
-Inv-loop t s beats₀ forms changed₀ sum₀ t7 t8 t9 t10 t11 counter₀ beats changed sum counter = (length beats ≡ length beats₀) × (counter ≤ forms)
+Inv-loop t s beats₀ forms changed₀ sum₀ t7 t8 t9 t10 t11 counter₀ beats changed sum counter =
+    (length beats ≡ length beats₀) × (counter ≤ forms)
 
 abbrev μ-loop : tie.MeasureT-loop
 μ-loop t s beats₀ forms changed₀ sum₀ t7 t8 t9 t10 t11 counter₀ beats changed sum counter = forms - counter
