@@ -140,6 +140,7 @@ SILENT = f'#!/bin/sh\nexec "$0{RIGHT}" "$@" 2>/dev/null\n'  # and one that tells
 CLAIMS, VACUITY, SHAMS, REQUIRES = "docs/CLAIMS.md", "docs/VACUITY.md", "docs/SHAMS.md", "docs/REQUIRES.md"
 FIRST = "| claim | kind | where |\n|---|---|---|---|\n| D1a |"  # after the first id of a header
 THEOREMS, CASES, BOUNDED = "crates/number/proofs/Theorems.antt", "crates/bounded/proofs/Cases.antt", "crates/bounded/specs/Bounded.antt"
+TREE, TREES = "crates/tree/specs/Tree.antt", "crates/tree/proofs/Cases.antt"
 EDIT = "accepted_has_a_place"
 SHAM, LOG = f"crates/refusal/must-fail/{EDIT}.edit", f"target/must-fail/refusal/{EDIT}/.log"
 HEADER, PAGE, ARCHIVE = "include/ghanveltri.h", "host/man/ghanveltri.3", "target/host/libghanveltri.a"
@@ -187,12 +188,14 @@ BREAKS = {
         Break("a tag in another case", THEOREMS, swap("[D2b]", "[D2b] [d2c]"), ("[d2c]", "[D2c]")),
     ],
     "definitions_have_examples": [
-        Break("a row deleted", VACUITY, drop(f"| `{BOUNDED}#first` |"), (f"{BOUNDED}#first has no row",)),
-        Break("a row without its outside", VACUITY, swap(f" `{CASES}#first-nowhere` |", ""), ("4 columns", f"{BOUNDED}#first")),
-        Break("an example on the wrong side", VACUITY, swap("#not-all-below", "#all-below"), ("every: all-below is no example",)),
-        Break("an example only in a comment", CASES, swap("\nfirst-nowhere :", "\n-- first-nowhere :"), ("first-nowhere",)),
-        Break("a new definition", BOUNDED, swap("abbrev pub first ", "abbrev pub third "), ("third has no row",)),
-        Break("a new one in two lines", BOUNDED, swap("\nabbrev", "\npub Odd :\n  ℕ → Type 0\n\nabbrev"), ("Odd has no row",)),
+        Break("a row deleted", VACUITY, drop(f"| `{TREE}#Tree` |"), (f"{TREE}#Tree has no example",)),
+        Break("a row without its outside", VACUITY, swap(f" `{TREES}#one` |", ""), ("3 columns", f"{TREE}#Tree")),
+        Break("a row of no example", VACUITY, swap(f"`{TREES}#one`", f"`{TREES}#two`"), ("Tree: ", "no theorem or line two")),
+        Break("a row too many", VACUITY, swap(f"| `{TREE}#Tree` |", f"| `{TREE}#size` |"), ("size: ", "need no row", f"{TREE}#Tree has")),
+        Break("two examples of one value", CASES, swap("(λ k. eqb k 7) 5 ≡ 5", "(λ k. eqb k 7) 5 ≡ 2"), (f"{BOUNDED}#first has no example",)),
+        Break("an example only in a comment", CASES, swap("\nfirst-nowhere :", "\n-- first-nowhere :"), (f"{BOUNDED}#first has no",)),
+        Break("a new definition", BOUNDED, swap("abbrev pub first ", "abbrev pub third "), ("third has no example",)),
+        Break("a new one in two lines", BOUNDED, swap("\nabbrev", "\npub Odd :\n  ℕ → Type 0\n\nabbrev"), ("Odd has no example",)),
     ],
     "heads_name_what_is_there": [
         Break("a name that is not there", BOUNDED, swap("--     every f n ", "--     evry f n "), (f"{BOUNDED} defines no evry",)),

@@ -1,10 +1,13 @@
 #!/usr/bin/env python3
-"""Holds docs/VACUITY.md to the tree: each public definition of specs/ that takes an argument, each data type, and what ALSO names has one
-row | definition | what it says | inside | outside |, and each reference there is a theorem of proofs/ or a line of a stored output.
+"""Holds the definitions to their examples: each public definition of specs/ that takes an argument, each data type, and what ALSO names
+has an example inside and one outside. [P14]
 
-Of a predicate (Type-valued) and of a test (Bool-valued) the theorems are its own and take the right side: a predicate's outside
-denies it (→ ⊥), a test's inside is ≡ true and its outside ≡ false. Of any other definition the two columns differ.
-[P14]
+An example is a theorem of a file proofs/Cases.antt whose statement names the definition, by a `use` line of that file. A predicate
+(Type-valued) holds inside and is denied outside (→ ⊥), a test (Bool-valued) is ≡ true inside and ≡ false outside, and of any other
+definition two examples have two values. Where a definition is only computed through another, or in a line of a stored output, its
+examples have a row | definition | inside | outside | in docs/VACUITY.md, and no other has one.
+  verify_definitions.py          says what is wrong, and how many definitions there are
+  verify_definitions.py --list   prints the examples of each
 """
 import re
 import sys
@@ -12,11 +15,13 @@ import sys
 from verifying import ROOT, code, contents, ended, has, places, tables, verdict
 
 VACUITY = "docs/VACUITY.md"
-HEADER = ("definition", "what it says", "inside", "outside")
+HEADER = ("definition", "inside", "outside")
 ALSO = [("crates/refusal/proofs/Theorems.antt", "Given")]  # a predicate that stands in theorems alone
 PUBLIC = re.compile(r"^(?!pub (?:mod|use) )(?:\S.* )?pub .*(?:\n +.*)*", re.M)
 TYPE = re.compile(r"pub (?:record|data) (\S+) ((?:.|\n)*?) where(?: |\n|$)(?:.|\n)*")
 FUNCTION = re.compile(r"(?:abbrev |unfoldable )?pub (?!record |data )(\S+) (:(?: .*)?(?:\n +.*)*)")
+THEOREM = re.compile(r"^( {,2})(?:pub )?(?!abbrev |unfoldable |record |data |use |mod )(\S+) (:(?: .*)?(?:\n\1 +.*)*)", re.M)
+USE = re.compile(r"^use Rattle·(\w+)(?:·\w+)?((?:\.\w+)+)(?: as (\w+)|\.\{([^}]*)\})", re.M)
 EXAMPLE = re.compile(r"crates/\w+/(?:proofs/.*\.antt|stdout)")
 
 
@@ -41,77 +46,116 @@ def kind_of(signature):
     return "test" if signature.endswith("Bool") else "function"
 
 
+def theorems(path):
+    """What each theorem of a file says, on one line."""
+    return {name: re.sub(r"\s+", " ", said).strip() for _, name, said in THEOREM.findall(code(path))}
+
+
+def used(path):
+    """How a file writes the definitions that it uses: by the name, or after another for their file."""
+    for crate, module, alias, names in USE.findall(code(path)):
+        place = f"crates/{crate}{module.replace('.', '/')}.antt"
+        if alias and (ROOT / place).is_file():
+            yield from ((f"{alias}.{name}", (place, name)) for name in definitions(place))
+        elif not alias:
+            yield from ((name, (place, name)) for name in re.findall(r"[^\s,]+", names))
+
+
+def side(kind, said):
+    """On which side of a definition an example stands; of a function, its value."""
+    if kind == "predicate":
+        return "outside" if said.endswith("→ ⊥") else "inside"
+    _, equal, value = said.rpartition(" ≡ ")
+    if kind == "test":
+        return {"true": "inside", "false": "outside"}.get(value)
+    return value if equal else None
+
+
+def read_off(kinds):
+    """The examples of each definition by their sides, as the files proofs/Cases.antt have them."""
+    found = {}
+    for file in sorted(ROOT.glob("crates/*/proofs/**/Cases.antt")):
+        path = str(file.relative_to(ROOT))
+        names = [(name, definition) for name, definition in used(path) if definition in kinds]
+        for example, said in theorems(path).items():
+            for name, definition in names:
+                if has(said, name) and side(kinds[definition], said):
+                    found.setdefault(definition, {}).setdefault(side(kinds[definition], said), []).append(f"{path}#{example}")
+    return found
+
+
 def statement(path, name):
     """What a theorem says, or how a line of stored output begins; None where there is none such."""
     if not EXAMPLE.fullmatch(path) or not (ROOT / path).is_file() or not name:
         return None
     if path.endswith("/stdout"):
         return name if re.search(rf"^{re.escape(name)}(?!\S)", contents(path), re.M) else None
-    found = re.search(rf"^ *(?:pub )?{re.escape(name)} (:.*(?:\n +→.*|\n +≡.*)*)", code(path), re.M)
-    return found and found.group(1).rstrip()
+    return theorems(path).get(name)
 
 
-def on_its_side(kind, name, said, inside):
-    if kind == "predicate":
-        return has(said, name) and said.endswith("→ ⊥") != inside
-    if kind == "test":
-        return has(said, name) and said.endswith("≡ true" if inside else "≡ false")
-    return True
-
-
-def faults(name, kind, inside, outside):
-    for column, is_inside in ((inside, True), (outside, False)):
+def faults(inside, outside):
+    """What is wrong with the examples of a row."""
+    for column, where in ((inside, "inside"), (outside, "outside")):
         examples = places(column)
         if not examples:
-            yield f"names no example {'inside' if is_inside else 'outside'}, or something that is none"
+            yield f"names no example {where}, or something that is none"
         for path, example in examples or ():
-            said = statement(path, example)
-            if said is None:
+            if statement(path, example) is None:
                 yield f"{path} has no theorem or line {example}"
-            elif not on_its_side(kind, name, said, is_inside):
-                yield f"{example} is no example of it on this side"
     for place in set(places(inside) or ()) & set(places(outside) or ()):
         yield f"{place[1]} stands on both sides"
 
 
 def wanted():
-    """Each definition that has to have a row; and what of specs/ is not understood."""
-    rows, odd = [*ALSO], []
-    for file in sorted(ROOT.glob("crates/*/specs/**/*.antt")):
-        path = str(file.relative_to(ROOT))
+    """The kind of each definition that has to have examples; and what of specs/ is not understood."""
+    kinds, odd = {}, []
+    specs = [str(file.relative_to(ROOT)) for file in sorted(ROOT.glob("crates/*/specs/**/*.antt"))]
+    for path, own in [*((path, None) for path in specs), *ALSO]:
         for name, signature in definitions(path).items():
+            if own and name != own:
+                continue
             if signature is None:
                 odd.append(f"{path}: a public definition is not understood: {name}")
             elif kind_of(signature) != "constant":
-                rows.append((path, name))
-    return rows, odd
+                kinds[path, name] = kind_of(signature)
+    return kinds, odd
 
 
-def row_faults(cells):
-    """What is wrong with a row that defines something, apart from others; and what it defines."""
-    where = places(cells[0]) or [("", "")]
-    path, name = where[0]
-    here = definitions(path) if path.endswith(".antt") and (ROOT / path).is_file() else {}
-    if len(where) != 1 or here.get(name) is None:
-        return (path, name), [f"there is no definition {cells[0]}"]
-    said = [] if cells[1] else ["nothing is said of it"]
-    return (path, name), said + [*faults(name, kind_of(here[name]), *cells[2:])]
+def row_faults(row, kinds, read, seen):
+    """What is wrong with a row of docs/VACUITY.md, where those before it are seen; and what it defines."""
+    definition = (places(row.cells[0]) or [("", "")])[0]
+    found = [*faults(*row.cells[1:])]
+    if definition not in kinds:
+        found.append(f"there is no definition {row.cells[0]}")
+    if definition in read:
+        found.append("its examples are read off the files proofs/Cases.antt, and need no row")
+    if definition in seen:
+        found.append("stands twice")
+    return definition, [f"{VACUITY}:{row.line}: {definition[1]}: {fault}" for fault in found]
 
 
-def main():
-    needed, found = wanted()
+def listed(read):
+    for (path, name), sides in sorted(read.items()):
+        print(f"{path}#{name}", *(f"  {where}: {', '.join(examples)}" for where, examples in sides.items()), sep="\n")
+
+
+def main(arguments):
+    kinds, found = wanted()
+    read = {definition: sides for definition, sides in read_off(kinds).items() if len(sides) > 1}
+    if arguments == ["--list"]:
+        listed(read)
     rows, odd = tables(VACUITY, HEADER)
     found += odd
     seen = []
     for row in rows:
-        definition, own = row_faults(row.cells)
-        if definition in seen:
-            own.append("stands twice")
+        definition, own = row_faults(row, kinds, read, seen)
         seen.append(definition)
-        found += [f"{VACUITY}:{row.line}: {definition[1]}: {fault}" for fault in own]
-    found += [f"{path}#{name} has no row in {VACUITY}" for path, name in needed if (path, name) not in seen]
-    return verdict(found, len(rows), "definitions")
+        found += own
+    for path, name in kinds:
+        if (path, name) not in seen and (path, name) not in read:
+            found.append(f"{path}#{name} has no example on each side in proofs/Cases.antt, and no row in {VACUITY}")
+    return verdict(found, len(kinds), "definitions")
 
 
 if __name__ == "__main__":
-    sys.exit(ended(main))
+    sys.exit(ended(lambda: main(sys.argv[1:])))

@@ -8,7 +8,8 @@ use Prim.Native.Nat.{ℕ}
 use native.Mathlib.Omega.{arith}
 use lib.ListN.{getD}
 use Rattle.bounded.specs.Bounded.{every, firstFrom}
-use Rattle.refusal.specs.declared.Refusal.the-variants.{RunTooLong}
+use Rattle.refusal.specs.declared.Refusal.the-variants.{RunTooLong, EmptyHand}
+use Rattle.refusal.specs.declared.Answer.{Answer}
 use Rattle.refusal.specs.declared.Verdict.{Verdict}
 use Rattle.refusal.specs.Rows.{judge}
 use Rattle.triangle.specs.Count.{N}
@@ -18,7 +19,7 @@ use Rattle.circle.specs.declared.Move.{Move}
 use Rattle.circle.specs.Step.{shift, is01, found, has01, movesNext, next, top}
 use Rattle.circle.specs.Walk.{steps, changed, worked, isDip, dips, OneWay}
 use Rattle.circle.specs.Plan.{Form, applied, changes, Inside, Plans}
-use Rattle.circle.specs.Answers.{runRows}
+use Rattle.circle.specs.Answers.{runRows, nextAnswer, nextLeft, runAnswer, runLeft}
 use Rattle.circle.proofs.Circle.{steps-schedule}
 use Rattle.circle.proofs.Theorems.{circle}
 
@@ -220,3 +221,37 @@ no-way-to-111 p = omega (arith, steps-schedule (p .count) schedule-110 .taken, a
 five-ways : OneWay 3 2 (1 ∷ 0 ∷ []) (1 ∷ 0 ∷ []) → ⊥
 unfolding N shift found has01 movesNext next firstFrom every ones zeros isSchedule steps
 five-ways p = omega (arith, p .only 1 (omega arith) (omega arith) refl, p .only 2 (omega arith) (omega arith) refl)
+
+-- what the calls answer and leave: 11100, two beats on its way to 10110, and 1001, which has nothing in hand at place 2
+next-answers-2 : nextAnswer 3 2 (1 ∷ 1 ∷ 1 ∷ 0 ∷ 0 ∷ []) ≡ Answer.Value 2
+unfolding changed every firstFrom ones zeros isSchedule shift found has01 movesNext next
+next-answers-2 = refl
+
+next-refuses-5 : nextAnswer 2 2 (1 ∷ 0 ∷ 0 ∷ 1 ∷ []) ≡ Answer.Refused (EmptyHand 2)
+unfolding firstFrom ones zeros
+next-refuses-5 = refl
+
+next-leaves-10110 : nextLeft 3 2 (1 ∷ 1 ∷ 1 ∷ 0 ∷ 0 ∷ []) ≡ 1 ∷ 0 ∷ 1 ∷ 1 ∷ 0 ∷ []
+unfolding every firstFrom ones zeros isSchedule shift found has01 movesNext next
+next-leaves-10110 = refl
+
+next-leaves-1001 : nextLeft 2 2 (1 ∷ 0 ∷ 0 ∷ 1 ∷ []) ≡ 1 ∷ 0 ∷ 0 ∷ 1 ∷ []
+unfolding firstFrom ones zeros
+next-leaves-1001 = refl
+
+-- two steps from 11100, and one step too many for a run
+run-answers-4 : runAnswer 3 2 (1 ∷ 1 ∷ 1 ∷ 0 ∷ 0 ∷ []) 2 ≡ Answer.Value 4
+unfolding worked steps changed every firstFrom ones zeros isSchedule shift found has01 movesNext next
+run-answers-4 = refl
+
+run-refuses-13 : runAnswer 1 0 (1 ∷ []) 65536 ≡ Answer.Refused RunTooLong
+unfolding firstFrom ones zeros
+run-refuses-13 = refl
+
+run-leaves-11010 : runLeft 3 2 (1 ∷ 1 ∷ 1 ∷ 0 ∷ 0 ∷ []) 2 ≡ 1 ∷ 1 ∷ 0 ∷ 1 ∷ 0 ∷ []
+unfolding steps every firstFrom ones zeros isSchedule shift found has01 movesNext next
+run-leaves-11010 = refl
+
+run-leaves-1 : runLeft 1 0 (1 ∷ []) 65536 ≡ 1 ∷ []
+unfolding firstFrom ones zeros
+run-leaves-1 = refl

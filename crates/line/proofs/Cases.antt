@@ -42,3 +42,12 @@ beats-10 (suc (suc k)) h = absurd (omega arith)
 
 not-beats-12 : Beats (1 ∷ 2 ∷ []) → ⊥
 not-beats-12 f = omega (arith, f 1 (omega arith))
+
+-- "10", and "-" for no beat
+text-10 : beatText (1 ∷ 0 ∷ []) ≡ 49 ∷ 48 ∷ []
+unfolding beatText
+text-10 = refl
+
+text-none : beatText [] ≡ 45 ∷ []
+unfolding beatText
+text-none = refl

@@ -8,12 +8,15 @@ use Prim.Native.Nat.{ℕ}
 use native.Mathlib.Omega.{arith}
 use lib.ListN.{getD}
 use Rattle.bounded.specs.Bounded.{every, firstFrom}
+use Rattle.refusal.specs.declared.Answer.{Answer}
+use Rattle.refusal.specs.declared.Refusal.the-variants.{EmptyHand}
 use Rattle.triangle.specs.Count.{N}
 use Rattle.schedule.specs.Schedule.{ones, zeros, Schedule, isSchedule, Lists}
 use Rattle.schedule.proofs.Cases.{fits-11010, ahead-1001}
 use Rattle.circle.specs.Step.{shift, found, has01, movesNext, next}
 use Rattle.circle.specs.Walk.{steps, changed}
 use Rattle.number.specs.Number.{start, Fewest, same, numberOf, formOf}
+use Rattle.number.specs.Answers.{numberAnswer}
 use Rattle.number.specs.Groups.{upTo, lastGroup, ending, S}
 use Rattle.number.specs.Ranking.{isSized, goesOn, Ranks}
 use Rattle.number.proofs.Theorems.{number-fewest, S-lists}
@@ -146,3 +149,12 @@ start-3-2 = refl
 
 start-1-1 : start 1 1 ≡ 1 ∷ 0 ∷ []
 start-1-1 = refl
+
+-- what the call answers: the number of 11010, and 1001, which has nothing in hand at place 2
+answers-2 : numberAnswer 3 2 (1 ∷ 1 ∷ 0 ∷ 1 ∷ 0 ∷ []) ≡ Answer.Value 2
+unfolding N every firstFrom ones zeros isSchedule shift found has01 movesNext next steps changed
+answers-2 = refl
+
+answers-5 : numberAnswer 2 2 (1 ∷ 0 ∷ 0 ∷ 1 ∷ []) ≡ Answer.Refused (EmptyHand 2)
+unfolding firstFrom ones zeros
+answers-5 = refl

@@ -6,6 +6,8 @@ use mathlib.Core.Path.{_≡_, refl}
 use Prim.Native.Nat.{ℕ, _<_}
 use native.Mathlib.Omega.{arith}
 use lib.ListN.{replicate}
+use Rattle.refusal.specs.declared.Refusal.the-variants.{NoSuchNumber}
+use Rattle.refusal.specs.declared.Verdict.{Verdict}
 use Rattle.text.specs.Decimal.{digits, decimal}
 use Rattle.bounded.specs.Bounded.{every, firstFrom}
 use Rattle.triangle.specs.Count.{N, mostBeats}
@@ -19,7 +21,7 @@ use Rattle.stream.specs.declared.Stream.{Stream}
 use Rattle.stream.specs.Stream.{listFrom}
 use Rattle.stream.specs.Exchange.{begun, fed, finished}
 use Rattle.stream.specs.Pass.{rests}
-use Rattle.packing.specs.Listed.{lineOf, packingList, widest, Buffers, Turned}
+use Rattle.packing.specs.Listed.{text, lineOf, packingList, widest, Buffers, Turned}
 
 -- 3 2 2 11010 [E4]
 first : lineOf (12 ∷ 0 ∷ 1 ∷ 0 ∷ 3 ∷ 2 ∷ 2 ∷ 0 ∷ 0 ∷ 0 ∷ 0 ∷ 0 ∷ 0 ∷ 0 ∷ [])
@@ -111,3 +113,15 @@ turned-at-the-end = record {
 
 turned-out-of-the-buffer : Turned [] [] begun [] (after-the-end 1) → ⊥
 turned-out-of-the-buffer p = omega (arith, p .inside .held)
+
+-- the line after a verdict: "1 1 0 10", and "refused 7 0"
+text-taken : text (5 ∷ 0 ∷ 2 ∷ 0 ∷ 1 ∷ 1 ∷ 128 ∷ []) Verdict.Accepted
+    ≡ 49 ∷ 32 ∷ 49 ∷ 32 ∷ 48 ∷ 32 ∷ 49 ∷ 48 ∷ 10 ∷ []
+unfolding valueOf tabulate N digits decimal beatText every firstFrom ones zeros isSchedule shift found has01 movesNext
+    next steps changed
+text-taken = refl
+
+text-refused : text [] (Verdict.Refused NoSuchNumber)
+    ≡ 114 ∷ 101 ∷ 102 ∷ 117 ∷ 115 ∷ 101 ∷ 100 ∷ 32 ∷ 55 ∷ 32 ∷ 48 ∷ 10 ∷ []
+unfolding digits decimal
+text-refused = refl

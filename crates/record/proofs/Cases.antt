@@ -15,6 +15,7 @@ use Rattle.refusal.specs.declared.Refusal.the-variants.{
   WrongTakeUps,
   NoSuchNumber,
 }
+use Rattle.refusal.specs.declared.Answer.{Answer}
 use Rattle.refusal.specs.declared.Verdict.{Verdict}
 use Rattle.refusal.specs.Rows.{judge}
 use Rattle.triangle.specs.Count.{N, mostBeats}
@@ -50,7 +51,12 @@ use Rattle.record.specs.Record.{
   misfit,
   spoiled,
 }
-use Rattle.record.specs.Record.{meant, meantNumber, readRows, eaten}
+use Rattle.record.specs.Record.{meant, meantNumber, packedRows, bodyRows, headRows, kindRows, readRows, eaten}
+use Rattle.record.specs.Record.{recordIn, roomRow, knownRows, written, knownAnswer, knownLeft}
+use Rattle.record.specs.Record.{writeRows, writeAnswer, writeLeft}
+use Rattle.record.specs.declared.reading.Order.{Order}
+use Rattle.record.specs.declared.reading.Reading.{Reading}
+use Rattle.record.specs.Parts as said
 
 -- 12 and 1,020 as two bytes, and back
 low-12 : lowFirst 2 12 ≡ 12 ∷ 0 ∷ []
@@ -345,3 +351,152 @@ eaten-12 = refl
 
 eaten-11 : eaten WrongSize 5 ≡ 7
 eaten-11 = refl
+
+-- the parts of a record, where t stands at byte 4
+ups-at-4 : upsAt 4 (5 ∷ 0 ∷ 2 ∷ 0 ∷ 3 ∷ 2 ∷ 168 ∷ []) ≡ 3
+ups-at-4 = refl
+
+downs-at-4 : downsAt 4 (5 ∷ 0 ∷ 2 ∷ 0 ∷ 3 ∷ 2 ∷ 168 ∷ []) ≡ 2
+downs-at-4 = refl
+
+body-at-4 : bodyAt 4 (5 ∷ 0 ∷ 2 ∷ 0 ∷ 3 ∷ 2 ∷ 168 ∷ []) ≡ 168 ∷ []
+unfolding valueOf
+body-at-4 = refl
+
+-- 10 in each layout
+in-numbered : recordIn (Layout.Numbered 4) 1 1 1 (1 ∷ 0 ∷ []) ≡ 12 ∷ 0 ∷ 1 ∷ 0 ∷ 1 ∷ 1 ∷ 0 ∷ 0 ∷ 0 ∷ 0 ∷ 0 ∷ 0 ∷ 0 ∷ 0 ∷ []
+unfolding lowFirst N firstFrom steps changed
+in-numbered = refl
+
+in-beaten : recordIn (Layout.Beaten 4) 2 1 1 (1 ∷ 0 ∷ []) ≡ 5 ∷ 0 ∷ 2 ∷ 0 ∷ 1 ∷ 1 ∷ 128 ∷ []
+unfolding lowFirst tabulate spell
+in-beaten = refl
+
+-- two bytes to write, into two and into one
+room-enough : judge (roomRow (1 ∷ 2 ∷ []) (7 ∷ 7 ∷ []) ∷ []) ≡ Verdict.Accepted
+room-enough = refl
+
+room-short : judge (roomRow (1 ∷ 2 ∷ []) (7 ∷ []) ∷ []) ≡ Verdict.Refused NoRoom
+room-short = refl
+
+known-taken : judge (knownRows 1 1 (1 ∷ 0 ∷ []) (1 ∷ 2 ∷ []) (7 ∷ 7 ∷ [])) ≡ Verdict.Accepted
+unfolding ones zeros firstFrom
+known-taken = refl
+
+known-short : judge (knownRows 1 1 (1 ∷ 0 ∷ []) (1 ∷ 2 ∷ []) (7 ∷ [])) ≡ Verdict.Refused NoRoom
+unfolding ones zeros firstFrom
+known-short = refl
+
+written-taken : written Verdict.Accepted (1 ∷ 2 ∷ []) (7 ∷ 7 ∷ 7 ∷ []) ≡ 1 ∷ 2 ∷ 7 ∷ []
+written-taken = refl
+
+written-refused : written (Verdict.Refused NoRoom) (1 ∷ 2 ∷ []) (7 ∷ []) ≡ 7 ∷ []
+written-refused = refl
+
+known-answers-2 : knownAnswer 1 1 (1 ∷ 0 ∷ []) (1 ∷ 2 ∷ []) (7 ∷ 7 ∷ []) ≡ Answer.Value 2
+unfolding ones zeros firstFrom
+known-answers-2 = refl
+
+known-answers-12 : knownAnswer 1 1 (1 ∷ 0 ∷ []) (1 ∷ 2 ∷ []) (7 ∷ []) ≡ Answer.Refused NoRoom
+unfolding ones zeros firstFrom
+known-answers-12 = refl
+
+known-leaves-work : knownLeft 1 1 (1 ∷ 0 ∷ []) (1 ∷ 2 ∷ []) (7 ∷ 7 ∷ 7 ∷ []) ≡ 1 ∷ 2 ∷ 7 ∷ []
+unfolding ones zeros firstFrom
+known-leaves-work = refl
+
+known-leaves-lent : knownLeft 1 1 (1 ∷ 0 ∷ []) (1 ∷ 2 ∷ []) (7 ∷ []) ≡ 7 ∷ []
+unfolding ones zeros firstFrom
+known-leaves-lent = refl
+
+-- 10 as a record of kind 2, which has 7 bytes, and as one of no kind
+write-taken : judge (writeRows 2 1 1 (1 ∷ 0 ∷ []) (replicate 8 7)) ≡ Verdict.Accepted
+unfolding lowFirst tabulate spell ones zeros firstFrom
+write-taken = refl
+
+write-other : judge (writeRows 3 1 1 (1 ∷ 0 ∷ []) (replicate 8 7)) ≡ Verdict.Refused UnknownKind
+write-other = refl
+
+write-answers-7 : writeAnswer 2 1 1 (1 ∷ 0 ∷ []) (replicate 8 7) ≡ Answer.Value 7
+unfolding lowFirst tabulate spell ones zeros firstFrom
+write-answers-7 = refl
+
+write-answers-12 : writeAnswer 2 1 1 (1 ∷ 0 ∷ []) (replicate 6 7) ≡ Answer.Refused NoRoom
+unfolding lowFirst tabulate spell ones zeros firstFrom
+write-answers-12 = refl
+
+write-leaves-record : writeLeft 2 1 1 (1 ∷ 0 ∷ []) (replicate 8 7) ≡ 5 ∷ 0 ∷ 2 ∷ 0 ∷ 1 ∷ 1 ∷ 128 ∷ 7 ∷ []
+unfolding lowFirst tabulate spell ones zeros firstFrom
+write-leaves-record = refl
+
+write-leaves-lent : writeLeft 3 1 1 (1 ∷ 0 ∷ []) (7 ∷ []) ≡ 7 ∷ []
+write-leaves-lent = refl
+
+-- the ends of the order of reading: 10101 packed, and with an unused bit; number 4 of (3,2), and 5
+packed-taken : judge (packedRows 3 2 (168 ∷ [])) ≡ Verdict.Accepted
+unfolding tabulate ones zeros firstFrom
+packed-taken = refl
+
+packed-spoiled : judge (packedRows 3 2 (169 ∷ [])) ≡ Verdict.Refused WrongSize
+packed-spoiled = refl
+
+body-taken : judge (bodyRows (layoutOf 1) 3 2 (4 ∷ [])) ≡ Verdict.Accepted
+unfolding valueOf N
+body-taken = refl
+
+body-beyond : judge (bodyRows (layoutOf 1) 3 2 (5 ∷ [])) ≡ Verdict.Refused NoSuchNumber
+unfolding valueOf N
+body-beyond = refl
+
+head-taken : judge (headRows mostBeats (5 ∷ 0 ∷ 2 ∷ 0 ∷ 3 ∷ 2 ∷ 168 ∷ [])) ≡ Verdict.Accepted
+unfolding valueOf
+head-taken = refl
+
+head-cut : judge (headRows mostBeats (5 ∷ 0 ∷ 2 ∷ [])) ≡ Verdict.Refused CutShort
+unfolding valueOf
+head-cut = refl
+
+kind-taken : judge (kindRows (layoutOf 2) (5 ∷ 0 ∷ 2 ∷ 0 ∷ 3 ∷ 2 ∷ 168 ∷ [])) ≡ Verdict.Accepted
+unfolding valueOf tabulate ones zeros firstFrom
+kind-taken = refl
+
+kind-misfit : judge (kindRows (layoutOf 2) (3 ∷ 0 ∷ 2 ∷ 0 ∷ 3 ∷ [])) ≡ Verdict.Refused WrongSize
+unfolding valueOf
+kind-misfit = refl
+
+-- the parts of an answer: of the manual's first record, and of one that is refused 7
+abbrev accepts : Reading
+accepts = Reading.Accepted (record { t = 3; s = 2; number = 2; consumed = 14 })
+
+abbrev refuses : Reading
+refuses = Reading.Refused NoSuchNumber 13
+
+verdict-accepts : said.verdict accepts ≡ Verdict.Accepted
+verdict-accepts = refl
+
+verdict-refuses : said.verdict refuses ≡ Verdict.Refused NoSuchNumber
+verdict-refuses = refl
+
+t-accepts : said.t accepts ≡ 3
+t-accepts = refl
+
+t-refuses : said.t refuses ≡ 0
+t-refuses = refl
+
+s-accepts : said.s accepts ≡ 2
+s-accepts = refl
+
+s-refuses : said.s refuses ≡ 0
+s-refuses = refl
+
+number-accepts : said.number accepts ≡ 2
+number-accepts = refl
+
+number-refuses : said.number refuses ≡ 0
+number-refuses = refl
+
+consumed-accepts : said.consumed accepts ≡ 14
+consumed-accepts = refl
+
+consumed-refuses : said.consumed refuses ≡ 13
+consumed-refuses = refl

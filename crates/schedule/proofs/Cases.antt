@@ -18,10 +18,11 @@ use Rattle.refusal.specs.declared.Refusal.the-variants.{
 }
 use Rattle.refusal.specs.declared.Verdict.{Verdict}
 use Rattle.refusal.specs.Answer.{refusal, place}
+use Rattle.refusal.specs.Rows.{judge}
 use Rattle.refusal.proofs.Theorems.{refused-number}
 use Rattle.triangle.specs.Count.{N}
 use Rattle.schedule.specs.Schedule.{ones, zeros, Schedule, isSchedule, Lists}
-use Rattle.schedule.specs.Check.{isBad, isBare, badBeat, emptyHand, checked}
+use Rattle.schedule.specs.Check.{isBad, isBare, badBeat, emptyHand, handRows, playRows, beatRows, checkRows, checked}
 use Rattle.schedule.specs.Skip.{isOther, skipped}
 use Rattle.schedule.specs.Meaning.{First, Nowhere, Bad, Bare, Refuses, Right}
 use Rattle.schedule.proofs.Hand.{plays, plays-schedule}
@@ -268,3 +269,34 @@ not-right-1001 r = ahead-1001 (r .1)
 
 not-right-11010 : (why : Refusal) → Right 3 2 (1 ∷ 1 ∷ 0 ∷ 1 ∷ 0 ∷ []) (Verdict.Refused why) → ⊥
 not-right-11010 = refuses-nothing
+
+-- the ends of the check's order, each by its first row and by its last
+hand-1001 : judge (handRows 2 (1 ∷ 0 ∷ 0 ∷ 1 ∷ [])) ≡ Verdict.Refused (EmptyHand 2)
+unfolding ones zeros firstFrom
+hand-1001 = refl
+
+hand-111 : judge (handRows 2 (1 ∷ 1 ∷ 1 ∷ [])) ≡ Verdict.Refused WrongTakeUps
+unfolding ones zeros firstFrom
+hand-111 = refl
+
+play-02 : judge (playRows 1 (0 ∷ 2 ∷ [])) ≡ Verdict.Refused (BadBeat 1)
+unfolding firstFrom
+play-02 = refl
+
+play-111 : judge (playRows 2 (1 ∷ 1 ∷ 1 ∷ [])) ≡ Verdict.Refused WrongTakeUps
+unfolding ones zeros firstFrom
+play-111 = refl
+
+beats-11 : judge (beatRows 2 1 (1 ∷ 1 ∷ [])) ≡ Verdict.Refused WrongLength
+beats-11 = refl
+
+beats-111 : judge (beatRows 2 1 (1 ∷ 1 ∷ 1 ∷ [])) ≡ Verdict.Refused WrongTakeUps
+unfolding ones zeros firstFrom
+beats-111 = refl
+
+rows-200 : judge (checkRows 200 0 []) ≡ Verdict.Refused TooManyTasks
+rows-200 = refl
+
+rows-111 : judge (checkRows 2 1 (1 ∷ 1 ∷ 1 ∷ [])) ≡ Verdict.Refused WrongTakeUps
+unfolding ones zeros firstFrom
+rows-111 = refl

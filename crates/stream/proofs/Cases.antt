@@ -14,7 +14,7 @@ use Rattle.record.specs.Bytes.{valueOf}
 use Rattle.stream.specs.declared.Front.{Front}
 use Rattle.stream.specs.declared.Pass.{Pass}
 use Rattle.stream.specs.declared.Stream.{Stream}
-use Rattle.stream.specs.Stream.{verdictOn, passed, ending, ends, listFrom, listOf, settled, frontOf, Own}
+use Rattle.stream.specs.Stream.{verdictOn, passing, passed, ending, ends, listFrom, listOf, settled, frontOf, Own}
 use Rattle.stream.specs.Exchange.{
   between,
   window,
@@ -358,3 +358,12 @@ listing-in-pieces =
 record-lost : Listing bell 1 9 false [] (0 ∷ 0 ∷ []) ([] ∷ [] ∷ []) → ⊥
 unfolding joined listFrom valueOf
 record-lost p = omega (arith, ap length (listing-list bell (λ src rest e. refl) p))
+
+-- the bytes to pass over after a verdict: those of the record, and after a 9 none
+passing-14 : passing third Verdict.Accepted ≡ 14
+unfolding valueOf
+passing-14 = refl
+
+passing-0 : passing third (Verdict.Refused CutShort) ≡ 0
+unfolding valueOf
+passing-0 = refl

@@ -15,7 +15,7 @@ use Rattle.refusal.specs.Rows.{judge}
 use Rattle.refusal.proofs.Theorems.{refused-number}
 use Rattle.schedule.specs.Schedule.{ones, zeros}
 use Rattle.tree.specs.Tree.{Tree, leaf, node, size, word, root, lefts, rights, parents}
-use Rattle.tree.specs.Table.{Has, fits, sizeRows, lentRows, Treed, filled, kept}
+use Rattle.tree.specs.Table.{Has, fits, sizeRows, lentRows, treeRows, Treed, filled, kept}
 use Rattle.tree.specs.Planting.{adopted}
 use Rattle.tree.proofs.Theorems.{has-closed, one-tables, treed-one}
 
@@ -131,3 +131,67 @@ adopts = refl
 
 adopts-no-leaf : adopted 0 1 (0 ∷ 0 ∷ []) ≡ 0 ∷ 0 ∷ []
 adopts-no-leaf = refl
+
+-- a root with a left child, and one with a right child, from number 1 on
+abbrev goes-left : Tree
+goes-left = node (node leaf leaf) leaf
+
+abbrev goes-right : Tree
+goes-right = node leaf (node leaf leaf)
+
+size-2 : size goes-left ≡ 2
+unfolding size
+size-2 = refl
+
+size-0 : size leaf ≡ 0
+unfolding size
+size-0 = refl
+
+word-left : word goes-left ≡ 1 ∷ 1 ∷ 0 ∷ 0 ∷ 0 ∷ []
+unfolding word
+word-left = refl
+
+word-right : word goes-right ≡ 1 ∷ 0 ∷ 1 ∷ 0 ∷ 0 ∷ []
+unfolding word
+word-right = refl
+
+root-3 : root 3 goes-left ≡ 3
+unfolding root
+root-3 = refl
+
+root-none : root 3 leaf ≡ 0
+unfolding root
+root-none = refl
+
+lefts-left : lefts 1 goes-left ≡ 2 ∷ 0 ∷ []
+unfolding root lefts size
+lefts-left = refl
+
+lefts-right : lefts 1 goes-right ≡ 0 ∷ 0 ∷ []
+unfolding root lefts size
+lefts-right = refl
+
+rights-left : rights 1 goes-left ≡ 0 ∷ 0 ∷ []
+unfolding root rights size
+rights-left = refl
+
+rights-right : rights 1 goes-right ≡ 2 ∷ 0 ∷ []
+unfolding root rights size
+rights-right = refl
+
+parents-left : parents 0 1 goes-left ≡ 0 ∷ 1 ∷ []
+unfolding parents size
+parents-left = refl
+
+parents-none : parents 0 1 leaf ≡ []
+unfolding parents
+parents-none = refl
+
+-- the refusals of a schedule and of the tables lent for it, by the last row and with none
+rows-10 : judge (treeRows 1 (1 ∷ 0 ∷ []) (7 ∷ []) (7 ∷ []) (7 ∷ [])) ≡ Verdict.Accepted
+unfolding firstFrom ones zeros
+rows-10 = refl
+
+rows-01 : judge (treeRows 1 (0 ∷ 1 ∷ []) (7 ∷ []) (7 ∷ []) (7 ∷ [])) ≡ Verdict.Refused (EmptyHand 0)
+unfolding firstFrom ones zeros
+rows-01 = refl

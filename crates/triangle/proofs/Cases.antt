@@ -1,6 +1,7 @@
 -- The definitions of specs/ on small inputs: for each one value and another. Assumes nothing.
 use mathlib.Core.Path.{_≡_, refl}
-use Rattle.triangle.specs.Count.{N, C, counted, cell}
+use Prim.Native.Nat.{suc}
+use Rattle.triangle.specs.Count.{N, C, largest, counted, cell}
 use Rattle.triangle.specs.Table.{at}
 
 -- five schedules of 3, 2, and none that sets down more than it takes up
@@ -22,13 +23,13 @@ unfolding C
 no-way = refl
 
 -- the largest count, and one past it
-counted-32 : counted 32 1 ≡ 32
+counted-largest : counted largest 1 ≡ largest
 unfolding counted N
-counted-32 = refl
+counted-largest = refl
 
-not-counted-33 : counted 33 1 ≡ 0
+not-counted : counted (suc largest) 1 ≡ 0
 unfolding counted
-not-counted-33 = refl
+not-counted = refl
 
 -- two entries of the table
 entry-28 : at 5 3 ≡ 28

@@ -30,9 +30,13 @@ one-without-zeros = N-zero
 pub none-above : (t s : ℕ) → t < s → N t s ≡ 0
 none-above = N-over
 
-pub largest-counts : (N 32 32 ≡ 55534064877048198) × (N 32 31 ≡ 55534064877048198)
+pub largest-counts : (N largest largest ≡ 55534064877048198) × (N largest (largest - 1) ≡ 55534064877048198)
     × ((t s : ℕ) → t ≤ largest → N t s ≤ 55534064877048198)
-largest-counts = (sym (at-N 32 32 (omega arith) (omega arith)), sym (at-N 32 31 (omega arith) (omega arith)), N-most)
+largest-counts = (
+  sym (at-N largest largest (omega arith) (omega arith)),
+  sym (at-N largest (largest - 1) (omega arith) (omega arith)),
+  N-most,
+)
 
 pub fits-64-bits : (t s : ℕ) → t ≤ largest → N t s < 2 ^ 64
 fits-64-bits = N-fits
