@@ -64,9 +64,9 @@ single e = ap (λ (l : List (List ℕ)). getD l 0 []) e
 
 module _ (t s : ℕ) (a : Allowed t s) where
   -- what an accepted number says
-  numbered : (b : List ℕ) (n : ℕ) → Gives (number t s b) Verdict.Accepted (n ∷ []) (b ∷ [])
+  number-meant : (b : List ℕ) (n : ℕ) → Gives (number t s b) Verdict.Accepted (n ∷ []) (b ∷ [])
       → Schedule t s b × (n ≡ numberOf t s b)
-  numbered b n g =
+  number-meant b n g =
       let e = taken (checked t s b) (numberOf t s b) (g .0 .0) in
       let said : n ∷ [] ≡ numberOf t s b ∷ [] =
       g .0 .1 ∙ ap (λ (v : Verdict). value (answer v (numberOf t s b)) ∷ []) e in
@@ -84,7 +84,7 @@ module _ (t s : ℕ) (a : Allowed t s) where
         next-form = λ b p. let e = schedule-accepted t s b a p in (says _ _ (accepts _ e _), leaves _ e _ b);
         number-given = λ b p. (numberOf t s b, (says _ _ (accepts _ (schedule-accepted t s b a p) _), refl));
         number-fewest = λ b n g.
-            let said = numbered b n g in
+            let said = number-meant b n g in
             subst (Fewest t s b) (sym (said .1)) (number-fewest (said .0));
         form-given = λ n out h long. (
           formOf t s n,
@@ -100,7 +100,7 @@ module _ (t s : ℕ) (a : Allowed t s) where
       asks : (n : ℕ) (out b : List ℕ) → Gives (number t s b) Verdict.Accepted (n ∷ []) (b ∷ []) → length out ≡ t + s
           → Gives (form t s n out) Verdict.Accepted [] (b ∷ [])
       asks n out b g long =
-          let said = numbered b n g in
+          let said = number-meant b n g in
           let below : n < N t s = omega (arith, said .1, number-below (said .0)) in
           let answered =
           sym (accepts (checked t s b) (schedule-accepted t s b a (said .0)) (numberOf t s b))

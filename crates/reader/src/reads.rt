@@ -124,8 +124,8 @@ fn spread(
     if !pack::unpack(packed, room) {
         return Reading::Refused(Refusal::WrongSize, 2 + long);
     }
-    let numbered = number::number_by(rows, t, s, room);
-    match numbered {
+    let answer = number::number_by(rows, t, s, room);
+    match answer {
         Answer::Refused(why) => Reading::Refused(why, 2 + long),
         Answer::Value(number) => {
             bytes::copy(room, out);

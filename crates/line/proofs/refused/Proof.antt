@@ -14,11 +14,11 @@ use Rattle.line.proofs.refused.Tie as tie
 abbrev before-word : tie.After-copy → tie.Start
 before-word c = c .before .before .before .before
 
-abbrev numbered : tie.After-field → tie.After-number
-numbered c = c .before .before
+abbrev after-number : tie.After-field → tie.After-number
+after-number c = c .before .before
 
 abbrev before-number : tie.After-field → tie.After-copy
-before-number c = numbered c .before .before .before
+before-number c = after-number c .before .before .before
 
 abbrev placed : tie.After-decimal → tie.After-place
 placed c = c .before .before
@@ -31,7 +31,7 @@ past-number : (c : tie.After-field) → let start = before-word (before-number c
     (c .field .result ≤ 29) × (length (c .field .last .1 .0) ≡ length (start .args .out .now))
 past-number c =
     let first = before-number c in
-    let few = field-fits (numbered c .number .result) (search needs) in (
+    let few = field-fits (after-number c .number .result) (search needs) in (
       omega (arith, c .field .ensures .end, first .copy .ensures .0, few),
       c .field .kept .1 .0 ∙ first .copy .kept .1 .0,
     )
@@ -79,7 +79,7 @@ returns c =
     let third = fourth .before .before .before .before in
     let second = before-place third in
     let first = before-number second in
-    written-refused (before-word first .args .why) (numbered second .number .ensures) (placed third .place .ensures)
+    written-refused (before-word first .args .why) (after-number second .number .ensures) (placed third .place .ensures)
     (record { text = first .copy .ensures .1; end = first .copy .ensures .0 })
     (second .field .ensures) (third .decimal .ensures) (fourth .put .ensures)
 

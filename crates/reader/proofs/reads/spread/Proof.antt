@@ -96,22 +96,22 @@ module _ (c : tie.After-number-by) where
   taken : judge (packedRows (t made) (s made) (packed made)) ≡ checked (t made) (s made) beats
   taken = verdict made (sym (result-is made) ∙ not-false (made .unpack .result) (c .before .before .if1 .left))
 
-  numbered : c .number-by .result ≡ answer (checked (t made) (s made) beats) (numberOf (t made) (s made) beats)
-  numbered =
+  answered : c .number-by .result ≡ answer (checked (t made) (s made) beats) (numberOf (t made) (s made) beats)
+  answered =
       c .number-by .ensures
       ∙ ap (λ (b : List ℕ). answer (checked (t made) (s made) b) (numberOf (t made) (s made) b)) (written-is made)
 
 number-by-requires : tie.Need-number-by-requires
 number-by-requires c κs = start (c .before .before .before .before) .pre .0
 
-enum-known-numbered : tie.Need-enum-known-numbered
-enum-known-numbered c = search needs
+enum-known-answer : tie.Need-enum-known-answer
+enum-known-answer c = search needs
 
 add-t20 : tie.Need-add-t20
 add-t20 c = search needs
 
-enum-known-numbered-2 : tie.Need-enum-known-numbered-2
-enum-known-numbered-2 c = search needs
+enum-known-answer-2 : tie.Need-enum-known-answer-2
+enum-known-answer-2 c = search needs
 
 copy-requires : tie.Need-copy-requires
 copy-requires c κs = search needs
@@ -128,7 +128,7 @@ returns-2 c =
     let here = made called in
     let why =
     answer-refused (checked (t here) (s here) (beats called)) (numberOf (t here) (s here) (beats called))
-    (sym (numbered called) ∙ c .before .numbered .given .1) in
+    (sym (answered called) ∙ c .before .answer .given .1) in
     let refused = taken called ∙ why in (
       told-refused refused (late-check (t here) (s here) (beats called) why) (t here) (s here) _ (long here),
       left-refused refused _ (out here),
@@ -147,7 +147,7 @@ returns-3 c =
     let here = made called in
     let value =
     answer-value (checked (t here) (s here) (beats called)) (numberOf (t here) (s here) (beats called))
-    (sym (numbered called) ∙ copying .before .before .before .before .numbered2 .given .1) in
+    (sym (answered called) ∙ copying .before .before .before .before .answer2 .given .1) in
     let accepted = taken called ∙ value .0 in
     let long-room : length (written here) ≡ length (out here) =
     ap length (written-is here) ∙ length-tabulate (t here + s here) _ ∙ sym (start here .pre .5) in (
@@ -168,9 +168,9 @@ spread-spec =
     same-length
     returns
     number-by-requires
-    enum-known-numbered
+    enum-known-answer
     add-t20
-    enum-known-numbered-2
+    enum-known-answer-2
     copy-requires
     add-t26
     same-length-2

@@ -48,14 +48,14 @@ module _ (c : tie.After-known-told2) where
   abbrev out : List ℕ
   out = start .args .out .now
 
-  numbered : (checked t s beats ≡ Verdict.Accepted) × (c .before .answer2 .given .0 .0 ≡ numberOf t s beats)
-  numbered =
+  answered : (checked t s beats ≡ Verdict.Accepted) × (c .before .answer2 .given .0 .0 ≡ numberOf t s beats)
+  answered =
       answer-value (checked t s beats) (numberOf t s beats)
       (sym (called .number .ensures) ∙ c .before .answer2 .given .1)
 
   few : (t < 256) × (s < 256)
   few =
-      let allowed = accepted-schedule t s beats (numbered .0) .0 in
+      let allowed = accepted-schedule t s beats (answered .0) .0 in
       (omega (arith, allowed .0), omega (arith, allowed .0, allowed .1))
 
   size : length (made start) ≡ 14
@@ -80,7 +80,7 @@ returns : tie.Need-returns
 returns c =
     let here = c .before in
     let refused =
-    write-short (t here) (s here) (beats here) (made (start here)) (out here) (numbered here .0)
+    write-short (t here) (s here) (beats here) (made (start here)) (out here) (answered here .0)
     (omega (arith, size here, start here .pre, c .if1 .taken)) in
     refused-so refused _ _ (out here)
 
@@ -129,7 +129,7 @@ returns-3 c =
     let from = at here + 2 in
     let n = from + 8 - from in
     let accepted =
-    write-taken (t here) (s here) (beats here) (made (start here)) (out here) (numbered here .0)
+    write-taken (t here) (s here) (beats here) (made (start here)) (out here) (answered here .0)
     (omega (arith, size here, start here .pre, test .if1 .left)) in
     let long = length-low 8 (numberOf (t here) (s here) (beats here)) in
     let kept = heading .head .kept .1 .1 .1 .1 .1 .0 in
@@ -138,7 +138,7 @@ returns-3 c =
     let body =
     spelling .spell .ensures
     ∙ ap (λ (j : ℕ). lowFirst j (here .before .answer2 .given .0 .0)) eight
-    ∙ ap (lowFirst 8) (numbered here .1) in
+    ∙ ap (lowFirst 8) (answered here .1) in
     accepted-so accepted (omega (arith, size here, start here .pre))
     (record-made (Layout.Numbered (at here)) (start here .args .kind) (t here) (s here) (beats here) (from + 8 - 2) from
     n (out here) x
