@@ -7,7 +7,7 @@
 --     call-refused      so what the letter wants refused is not accepted [D1b] [D1e] [D1c]
 -- Assumes nothing.
 use mathlib.Core.Bool.{true≢false}
-use mathlib.Core.List.{List, [], _∷_, _++_, List·Memᴰ·head}
+use mathlib.Core.List.{List, [], _∷_, List·Memᴰ·head}
 use mathlib.Core.Path.{_≡_, refl, _∙_, sym, subst}
 use Prim.Native.Nat.{ℕ, _+_, _≤_}
 use native.Mathlib.Omega.{arith}

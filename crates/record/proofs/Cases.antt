@@ -54,7 +54,6 @@ use Rattle.record.specs.Record.{
 use Rattle.record.specs.Record.{meant, meantNumber, packedRows, bodyRows, headRows, kindRows, readRows, eaten}
 use Rattle.record.specs.Record.{recordIn, roomRow, knownRows, written, knownAnswer, knownLeft}
 use Rattle.record.specs.Record.{writeRows, writeAnswer, writeLeft}
-use Rattle.record.specs.declared.reading.Order.{Order}
 use Rattle.record.specs.declared.reading.Reading.{Reading}
 use Rattle.record.specs.Parts as said
 

@@ -22,9 +22,9 @@
 --     readRows         both [R20]
 --     eaten            the bytes consumed: 2 + L, but 0 after 9 and after 12 [R21]
 --     What reading answers and leaves is in specs/Answers of the crate `reader`.
-use mathlib.Core.Bool.{Bool, true, false, not, cond, _||_}
+use mathlib.Core.Bool.{Bool, false, not, cond, _||_}
 use mathlib.Core.List.{List, [], _∷_, _++_}
-use Prim.Native.Nat.{ℕ, zero, suc, _+_, _-_}
+use Prim.Native.Nat.{ℕ, _+_, _-_}
 use lib.Dec.{eqb, ltb}
 use lib.ListN.{length, getD, take, drop}
 use Rattle.refusal.specs.declared.Answer.{Answer}

@@ -1,5 +1,4 @@
 -- `moving::refill` meets its contract. Assumes nothing.
-use Prim.Native.Nat.{_-_}
 use Rattle.stream.proofs.Feeding.{refill-lost, refill-got}
 use borrow.Author.Needs.{needs}
 use Rattle.stream.proofs.moving.refill.Statement.{statement}
