@@ -71,7 +71,7 @@ add-out c = search needs
 
 slice-write-out-6 : tie.Need-slice-write-out-6
 slice-write-out-6 c =
-    lt-length-set (set (set (set (set (out c) 0 (a c)) 1 (b c)) 2 (d c)) 3 (e c)) (c .args .at) (c .args .t)
+    lt-length-set (set (set (set (set (out c) 0 (a c)) 1 (b c)) 2 (d c)) 3 (e c)) (c .args .at) _
     (lt-length-set (set (set (set (out c) 0 (a c)) 1 (b c)) 2 (d c)) 3 (e c)
     (lt-length-set (set (set (out c) 0 (a c)) 1 (b c)) 2 (d c)
     (lt-length-set (set (out c) 0 (a c)) 1 (b c) (lt-length-set (out c) 0 (a c) (omega (arith, c .pre))))))
