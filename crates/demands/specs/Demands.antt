@@ -1,10 +1,10 @@
 -- The three demands of the letter, about the definitions and about what the functions answer and leave (Calls.antt).
 -- proofs/Demands.antt proves each. That every call ends and takes every input is what the contracts say by having no
 -- `requires`. Definitions only.
---     Wrong                what the letter wants refused: counts above 32, bad beats, wrong lengths, numbers beyond the
---                          last form, cut records. A wrong length is each of these: a lent list of another length than
---                          the counts ask for, a sheet that is too short, fewer places than reading needs, too little
---                          room to write into, and an L that is wrong for its record [D1b] [D1e] [D1f]
+--     Wrong                what the letter wants refused: counts above the largest, bad beats, wrong lengths, numbers
+--                          beyond the last form, cut records. A wrong length is each of these: a lent list of another
+--                          length than the counts ask for, a sheet that is too short, fewer places than reading needs,
+--                          too little room to write into, and an L that is wrong for its record [D1b] [D1e] [D1f]
 --     Demand1              a call does its work or refuses by number: there is an answer, and no second one; a refusal
 --                          changes nothing [D1f]
 --     Demand2 t s          the next form, the number and the form of allowed counts [D2h]
@@ -106,7 +106,7 @@ pub record Demand3All (t s : ℕ) : Type 0 where
   pub run-given : (b : List ℕ) (k : ℕ) → Schedule t s b → k ≤ mostSteps
       → Gives (run t s b k) Verdict.Accepted (worked k b ∷ []) (steps k b ∷ [])
 
--- all of it: t from 0 to 32 and s from 0 to t, but t from 2 and s from 1 for the round
+-- all of it: t from 0 to the largest count and s from 0 to t, but t from 2 and s from 1 for the round
 pub record Demands : Type 0 where
   pub first : Demand1
   pub second : (t s : ℕ) → Allowed t s → Demand2 t s

@@ -4,7 +4,7 @@
 --     has-closed, closed-has    what has tables is a closed schedule, and every closed schedule has tables
 --     one-tables                a schedule has one triple of tables
 --     treed-one                 no second answer and no second content of what is lent fits the contract [P11]
---     tree-accepts, accepts-tree     the way there accepts exactly the closed schedules of n ≤ 32 with
+--     tree-accepts, accepts-tree     the way there accepts exactly the closed schedules of n ≤ largest with
 --                                    room for their tables [T4]
 -- Assumes nothing.
 use mathlib.Core.List.{List, [], _∷_, _++_}
