@@ -203,6 +203,7 @@ BREAKS = {
         Break("one space after a name", BOUNDED, swap("--     every f n     the", "--     evry the"), ("defines no evry",)),
         Break("no name listed", BOUNDED, drop("--     ", 2), (f"{BOUNDED} lists no name",)),
         Break("no head", BOUNDED, drop("--", 3), (f"{BOUNDED} has no head",)),
+        Break("a long line", BOUNDED, swap("unfoldable pub every :", f"unfoldable pub every :{' ' * 100}"), (f"{BOUNDED}:", "characters long")),
     ],
     "requires_are_listed": [
         Break("a row deleted", REQUIRES, drop(LOOK), ("look of lookup has a `requires` and no row",)),

@@ -6,7 +6,16 @@ use Rattle.refusal.specs.declared.Verdict.{Verdict}
 use Rattle.refusal.specs.Rows.{judge}
 use Rattle.triangle.specs.Count.{N}
 use Rattle.circle.specs.Walk.{steps}
-use Rattle.form.specs.Answers.{numberRows, formRows, formVerdict, formLeft, sheetRows, onSheet, sheetVerdict, sheetLeft}
+use Rattle.form.specs.Answers.{
+  numberRows,
+  formRows,
+  formVerdict,
+  formLeft,
+  sheetRows,
+  onSheet,
+  sheetVerdict,
+  sheetLeft,
+}
 use Rattle.form.specs.Place.{placeOf, floorOf}
 
 -- places in a list S of five forms, and floors

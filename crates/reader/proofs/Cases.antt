@@ -64,7 +64,8 @@ answer-accepts : answerBy (layoutOf 2) (5 ∷ 0 ∷ 2 ∷ 0 ∷ 1 ∷ 1 ∷ 128 
 unfolding valueOf tabulate N firstFrom steps changed
 answer-accepts = refl
 
-answer-refuses : answerBy (layoutOf 2) (5 ∷ 0 ∷ 2 ∷ 0 ∷ 1 ∷ 1 ∷ 128 ∷ []) (Verdict.Refused NoRoom) ≡ Reading.Refused NoRoom 0
+answer-refuses : answerBy (layoutOf 2) (5 ∷ 0 ∷ 2 ∷ 0 ∷ 1 ∷ 1 ∷ 128 ∷ []) (Verdict.Refused NoRoom)
+    ≡ Reading.Refused NoRoom 0
 answer-refuses = refl
 
 read-accepts : readAnswer (5 ∷ 0 ∷ 2 ∷ 0 ∷ 1 ∷ 1 ∷ 128 ∷ []) (replicate mostBeats 7)

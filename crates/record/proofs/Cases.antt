@@ -363,7 +363,8 @@ unfolding valueOf
 body-at-4 = refl
 
 -- 10 in each layout
-in-numbered : recordIn (Layout.Numbered 4) 1 1 1 (1 ∷ 0 ∷ []) ≡ 12 ∷ 0 ∷ 1 ∷ 0 ∷ 1 ∷ 1 ∷ 0 ∷ 0 ∷ 0 ∷ 0 ∷ 0 ∷ 0 ∷ 0 ∷ 0 ∷ []
+in-numbered : recordIn (Layout.Numbered 4) 1 1 1 (1 ∷ 0 ∷ [])
+    ≡ 12 ∷ 0 ∷ 1 ∷ 0 ∷ 1 ∷ 1 ∷ 0 ∷ 0 ∷ 0 ∷ 0 ∷ 0 ∷ 0 ∷ 0 ∷ 0 ∷ []
 unfolding lowFirst N firstFrom steps changed
 in-numbered = refl
 

@@ -22,7 +22,17 @@ use Rattle.refusal.specs.Rows.{judge}
 use Rattle.refusal.proofs.Theorems.{refused-number}
 use Rattle.triangle.specs.Count.{N}
 use Rattle.schedule.specs.Schedule.{ones, zeros, Schedule, isSchedule, Lists}
-use Rattle.schedule.specs.Check.{isBad, isBare, badBeat, emptyHand, handRows, playRows, beatRows, checkRows, checked}
+use Rattle.schedule.specs.Check.{
+  isBad,
+  isBare,
+  badBeat,
+  emptyHand,
+  handRows,
+  playRows,
+  beatRows,
+  checkRows,
+  checked,
+}
 use Rattle.schedule.specs.Skip.{isOther, skipped}
 use Rattle.schedule.specs.Meaning.{First, Nowhere, Bad, Bare, Refuses, Right}
 use Rattle.schedule.proofs.Hand.{plays, plays-schedule}

@@ -273,7 +273,9 @@ printed-nothing : Prints bell (0 ∷ 0 ∷ []) (1 ∷ 2 ∷ []) (record { consum
     → ⊥
 printed-nothing p = omega (arith, p .line-size)
 
-printed-over-more : Prints bell (0 ∷ 0 ∷ []) (1 ∷ 2 ∷ []) (record { consumed = 2; bytes = 1; last = false }) (7 ∷ 7 ∷ []) → ⊥
+printed-over-more : Prints bell (0 ∷ 0 ∷ []) (1 ∷ 2 ∷ []) (record { consumed = 2; bytes = 1; last = false })
+    (7 ∷ 7 ∷ [])
+    → ⊥
 printed-over-more p = omega (arith, ap (λ (l : List ℕ). getD l 1 0) (p .written))
 
 -- what stands at the front is no record
@@ -303,7 +305,8 @@ cut-record-listed : Lines bell 1 false 9 (0 ∷ 0 ∷ 0 ∷ []) (7 ∷ 7 ∷ [])
 cut-record-listed p = omega (arith, ap length (lines-one p lined .0))
 
 -- the same as a function answers and leaves it
-pass-made : Passes bell 1 false (0 ∷ 0 ∷ 0 ∷ []) (1 ∷ 2 ∷ []) (record { consumed = 2; bytes = 1; front = Front.Short }) (7 ∷ 2 ∷ [])
+pass-made : Passes bell 1 false (0 ∷ 0 ∷ 0 ∷ []) (1 ∷ 2 ∷ []) (record { consumed = 2; bytes = 1; front = Front.Short })
+    (7 ∷ 2 ∷ [])
 unfolding valueOf
 pass-made = record {
   text = 7 ∷ [];
@@ -313,7 +316,9 @@ pass-made = record {
   written = refl;
 }
 
-pass-past-the-window : Passes bell 1 false (0 ∷ 0 ∷ 0 ∷ []) (1 ∷ 2 ∷ []) (record { consumed = 4; bytes = 1; front = Front.Short }) (7 ∷ 2 ∷ []) → ⊥
+pass-past-the-window : Passes bell 1 false (0 ∷ 0 ∷ 0 ∷ []) (1 ∷ 2 ∷ [])
+    (record { consumed = 4; bytes = 1; front = Front.Short }) (7 ∷ 2 ∷ [])
+    → ⊥
 pass-past-the-window p = omega (arith, p .within)
 
 -- a turn at the end of an empty input

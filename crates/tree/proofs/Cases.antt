@@ -121,7 +121,8 @@ treed-refused why l r p q = omega (arith, ap refusal (treed-one q treed-10 .0), 
 treed-taken : (l r p : List ℕ) → Treed 1 (0 ∷ 1 ∷ []) (7 ∷ []) (7 ∷ []) (7 ∷ []) Verdict.Accepted l r p → ⊥
 treed-taken l r p q = omega (arith, ap refusal (treed-one q treed-01 .0))
 
-treed-changed : Treed 1 (0 ∷ 1 ∷ []) (7 ∷ []) (7 ∷ []) (7 ∷ []) (Verdict.Refused (EmptyHand 0)) (0 ∷ []) (7 ∷ []) (7 ∷ [])
+treed-changed : Treed 1 (0 ∷ 1 ∷ []) (7 ∷ []) (7 ∷ []) (7 ∷ []) (Verdict.Refused (EmptyHand 0)) (0 ∷ []) (7 ∷ [])
+    (7 ∷ [])
     → ⊥
 treed-changed q = omega (arith, ap (λ (l : List ℕ). getD l 0 0) (treed-one q treed-01 .1))
 
