@@ -140,7 +140,7 @@ SILENT = f'#!/bin/sh\nexec "$0{RIGHT}" "$@" 2>/dev/null\n'  # and one that tells
 CLAIMS, VACUITY, SHAMS, REQUIRES = "docs/CLAIMS.md", "docs/VACUITY.md", "docs/SHAMS.md", "docs/REQUIRES.md"
 FIRST = "| claim | kind | where |\n|---|---|---|---|\n| D1a |"  # after the first id of a header
 THEOREMS, CASES, BOUNDED = "crates/number/proofs/Theorems.antt", "crates/bounded/proofs/Cases.antt", "crates/bounded/specs/Bounded.antt"
-TREE, TREES = "crates/tree/specs/Tree.antt", "crates/tree/proofs/Cases.antt"
+TREE, TREES, LINES = "crates/tree/specs/Tree.antt", "crates/tree/proofs/Cases.antt", "crates/line/proofs/Cases.antt"
 EDIT = "accepted_has_a_place"
 SHAM, LOG = f"crates/refusal/must-fail/{EDIT}.edit", f"target/must-fail/refusal/{EDIT}/.log"
 HEADER, PAGE, ARCHIVE = "include/ghanveltri.h", "host/man/ghanveltri.3", "target/host/libghanveltri.a"
@@ -193,6 +193,7 @@ BREAKS = {
         Break("a row of no example", VACUITY, swap(f"`{TREES}#one`", f"`{TREES}#two`"), ("Tree: ", "no theorem or line two")),
         Break("a row too many", VACUITY, swap(f"| `{TREE}#Tree` |", f"| `{TREE}#size` |"), ("size: ", "need no row", f"{TREE}#Tree has")),
         Break("two examples of one value", CASES, swap("(λ k. eqb k 7) 5 ≡ 5", "(λ k. eqb k 7) 5 ≡ 2"), (f"{BOUNDED}#first has no example",)),
+        Break("a predicate that is only premised", LINES, swap("beats-10 : Beats (1 ∷ 0 ∷ [])", "beats-10 : Beats (1 ∷ 0 ∷ []) → ℕ"), ("#Beats has no",)),
         Break("an example only in a comment", CASES, swap("\nfirst-nowhere :", "\n-- first-nowhere :"), (f"{BOUNDED}#first has no",)),
         Break("a new definition", BOUNDED, swap("abbrev pub first ", "abbrev pub third "), ("third has no example",)),
         Break("a new one in two lines", BOUNDED, swap("\nabbrev", "\npub Odd :\n  ℕ → Type 0\n\nabbrev"), ("Odd has no example",)),

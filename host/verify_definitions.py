@@ -3,8 +3,8 @@
 has an example inside and one outside. [P14]
 
 An example is a theorem of a file proofs/Cases.antt whose statement names the definition, by a `use` line of that file. A predicate
-(Type-valued) holds inside and is denied outside (→ ⊥), a test (Bool-valued) is ≡ true inside and ≡ false outside, and of any other
-definition two examples have two values. Where a definition is only computed through another, or in a line of a stored output, its
+(Type-valued) is said inside and denied outside (→ ⊥), not only premised; a test (Bool-valued) is ≡ true inside and ≡ false outside; of
+any other definition two examples have two values. Where a definition is only computed through another, or in a line of a stored output, its
 examples have a row | definition | inside | outside | in docs/VACUITY.md, and no other has one.
   verify_definitions.py          says what is wrong, and how many definitions there are
   verify_definitions.py --list   prints the examples of each
@@ -61,10 +61,12 @@ def used(path):
             yield from ((name, (place, name)) for name in re.findall(r"[^\s,]+", names))
 
 
-def side(kind, said):
-    """On which side of a definition an example stands; of a function, its value."""
+def side(kind, name, said):
+    """On which side of a definition that it names an example stands; of a function, its value; None where on none."""
     if kind == "predicate":
-        return "outside" if said.endswith("→ ⊥") else "inside"
+        *_, last = said.removeprefix(": ").removesuffix(" → ⊥").split(" → ")
+        where = "outside" if said.endswith(" → ⊥") else "inside"
+        return where if re.match(rf"\(?{re.escape(name)}(?: |$)", last) else None
     _, equal, value = said.rpartition(" ≡ ")
     if kind == "test":
         return {"true": "inside", "false": "outside"}.get(value)
@@ -79,8 +81,9 @@ def read_off(kinds):
         names = [(name, definition) for name, definition in used(path) if definition in kinds]
         for example, said in theorems(path).items():
             for name, definition in names:
-                if has(said, name) and side(kinds[definition], said):
-                    found.setdefault(definition, {}).setdefault(side(kinds[definition], said), []).append(f"{path}#{example}")
+                where = has(said, name) and side(kinds[definition], name, said)
+                if where:
+                    found.setdefault(definition, {}).setdefault(where, []).append(f"{path}#{example}")
     return found
 
 

@@ -1,6 +1,7 @@
 // Inputs as the manual spells its records: bytes in hex, the first one first, in one number or two.
 // A call with numbers is proved more quickly than one with a slice.
 use crate::asks;
+use record::little;
 use triangle::BEATS;
 use triangle::LARGEST;
 use triangle::SIDE;
@@ -67,20 +68,11 @@ pub fn long(n: usize, head: u64, tail: u64) {
     print_long(head, tail, &mut src[..n]);
 }
 
-// The bytes of a number, the lowest first.
-fn spell_low(number: u64, bytes: &mut [u8]) {
-    let mut rest = number;
-    for i in 0..bytes.len() {
-        bytes[i] = (rest % 256) as u8;
-        rest /= 256;
-    }
-}
-
 fn print_numbered(number: u64, src: &mut [u8]) {
     if src.len() < 6 {
         return;
     }
-    spell_low(number, &mut src[6..]);
+    little::spell(number, &mut src[6..]);
     asks::read(src);
 }
 

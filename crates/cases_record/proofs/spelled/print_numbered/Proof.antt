@@ -6,17 +6,17 @@ use Rattle.cases_record.proofs.spelled.print_numbered.Tie as tie
 returns : tie.Need-returns
 returns c = search needs
 
-sub-spell-low : tie.Need-sub-spell-low
-sub-spell-low c = search needs
+sub-spell : tie.Need-sub-spell
+sub-spell c = search needs
 
-part-spell-low-start : tie.Need-part-spell-low-start
-part-spell-low-start c = search needs
+part-spell-start : tie.Need-part-spell-start
+part-spell-start c = search needs
 
-part-spell-low-end : tie.Need-part-spell-low-end
-part-spell-low-end c = search needs
+part-spell-end : tie.Need-part-spell-end
+part-spell-end c = search needs
 
-spell-low-requires : tie.Need-spell-low-requires
-spell-low-requires c κs = search needs
+spell-requires : tie.Need-spell-requires
+spell-requires c κs = search needs
 
 read-requires : tie.Need-read-requires
 read-requires c κs = search needs
@@ -32,10 +32,10 @@ print-numbered-spec =
     tie.close
     (tie.spec
     returns
-    sub-spell-low
-    part-spell-low-start
-    part-spell-low-end
-    spell-low-requires
+    sub-spell
+    part-spell-start
+    part-spell-end
+    spell-requires
     read-requires
     same-length
     returns-2)
