@@ -211,14 +211,14 @@ schedule-101 : Schedule 2 1 (1 ∷ 0 ∷ 1 ∷ [])
 unfolding ones zeros plays
 schedule-101 = plays-schedule refl refl refl
 
-way-to-101 : OneWay 2 1 (1 ∷ 1 ∷ 0 ∷ []) (1 ∷ 0 ∷ 1 ∷ [])
+way-to-101 : OneWay steps 2 1 (1 ∷ 1 ∷ 0 ∷ []) (1 ∷ 0 ∷ 1 ∷ [])
 way-to-101 = circle schedule-110 schedule-101
 
-no-way-to-111 : OneWay 2 1 (1 ∷ 1 ∷ 0 ∷ []) (1 ∷ 1 ∷ 1 ∷ []) → ⊥
+no-way-to-111 : OneWay steps 2 1 (1 ∷ 1 ∷ 0 ∷ []) (1 ∷ 1 ∷ 1 ∷ []) → ⊥
 unfolding ones
 no-way-to-111 p = omega (arith, steps-schedule (p .count) schedule-110 .taken, ap ones (p .leads))
 
-five-ways : OneWay 3 2 (1 ∷ 0 ∷ []) (1 ∷ 0 ∷ []) → ⊥
+five-ways : OneWay steps 3 2 (1 ∷ 0 ∷ []) (1 ∷ 0 ∷ []) → ⊥
 unfolding N shift found has01 movesNext next firstFrom every ones zeros isSchedule steps
 five-ways p = omega (arith, p .only 1 (omega arith) (omega arith) refl, p .only 2 (omega arith) (omega arith) refl)
 

@@ -1,14 +1,15 @@
 -- Accepted schedules as forms, and what k steps from one have made.
---     accepted-form     what the check accepts is a schedule of its own counts
+--     own-counts, accepted-form     a schedule, and so what the check accepts, is one of its own counts
 --     step-form         and so is what a step leaves
 --     refused-so, accepted-so     what a call answers and leaves, by the verdict
 --     run-refused, run-long, run-taken     the verdict on a run
 --     run-allowed       what an accepted run says of the schedule and the steps
---     Walked, walked-start, walked-turn     after some steps of a run: the form reached and the beats changed so far
+--     Goes, goes-on     a walk goes step by step, from form to form, and a step changes four beats at most
+--     Walked, walked-start, walked-turn     after some steps of such a walk: the form reached, the beats changed so far
 -- Assumes nothing.
 use mathlib.Core.List.{List, [], _∷_, List·Memᴰ·head}
-use mathlib.Core.Path.{_≡_, refl, _∙_, ap, sym, subst}
-use Prim.Native.Nat.{ℕ, _+_, _*_, _≤_, _<_}
+use mathlib.Core.Path.{_≡_, refl, _∙_, ap, ap₂, sym, subst}
+use Prim.Native.Nat.{ℕ, suc, _+_, _*_, _≤_, _<_}
 use native.Mathlib.Numerals.{add-one}
 use native.Mathlib.Omega.{arith}
 use borrow.Author.Tests.{lt-ltb, le-ltb, ltb-false}
@@ -73,7 +74,7 @@ module _ (t s : ℕ) (b : List ℕ) (k : ℕ) where
       let none = accepted-none (long ∷ []) (judge-back (checkRows t s b) (long ∷ []) e) long (List·Memᴰ·head refl) in
       (judge-front (checkRows t s b) (long ∷ []) e, ltb-false mostSteps k none)
 
-own-counts : {t s : ℕ} {b : List ℕ} → Schedule t s b → Form b
+pub own-counts : {t s : ℕ} {b : List ℕ} → Schedule t s b → Form b
 own-counts p = plays-schedule (schedule-plays p) refl refl
 
 pub accepted-form : (t s : ℕ) (b : List ℕ) → checked t s b ≡ Verdict.Accepted → Form b
@@ -91,26 +92,54 @@ changed-four {b} f = by (next-work b (schedule-plays f))
     by (swap p q z e g) = omega (arith, swap-two p q z e g)
     by (dip p q a e g) = omega (arith, dip-four p q a e g)
 
--- a has come to b in i steps, which changed n beats
-pub record Walked (a b : List ℕ) (i n : ℕ) : Type 0 where
-  pub form : Form b
-  pub long : length b ≡ length a
-  pub reached : b ≡ steps i a
-  pub summed : n ≡ worked i a
-  pub few : n ≤ 4 * i
+pub record Goes (step : List ℕ → List ℕ) (walk : ℕ → List ℕ → List ℕ) (work : ℕ → List ℕ → ℕ) : Type 0 where
+  pub keeps : {b : List ℕ} → Form b → Form (step b)
+  pub four : {b : List ℕ} → Form b → changed b (step b) ≤ 4
+  pub starts : (b : List ℕ) → (walk 0 b ≡ b) × (work 0 b ≡ 0)
+  pub goes : (k : ℕ) (b : List ℕ) → walk (suc k) b ≡ step (walk k b)
+  pub adds : (k : ℕ) (b : List ℕ) → work (suc k) b ≡ work k b + changed (walk k b) (walk (suc k) b)
 
-pub walked-start : {a : List ℕ} → Form a → Walked a a 0 0
+pub goes-on : Goes next steps worked
 unfolding steps worked
-walked-start f = record { form = f; long = refl; reached = refl; summed = refl; few = omega arith }
-
-pub walked-turn : (a b c : List ℕ) (i n r : ℕ) → Walked a b i n → length c ≡ length b → c ≡ next b
-    → r ≡ changed b (next b) → Walked a c (i + 1) (n + r)
-unfolding steps worked
-walked-turn a b c i n r w l e q =
+goes-on =
     record {
-      form = subst Form (sym e) (step-form (w .form));
-      long = l ∙ w .long;
-      reached = e ∙ rw (add-one i, w .reached);
-      summed = rw (add-one i, ← (w .reached), ← q, ← (w .summed));
-      few = omega (arith, w .few, q, changed-four (w .form));
+      keeps = step-form;
+      four = changed-four;
+      starts = λ b. (refl, refl);
+      goes = λ k b. refl;
+      adds = λ k b. refl;
     }
+
+module _ {step : List ℕ → List ℕ} {walk : ℕ → List ℕ → List ℕ} {work : ℕ → List ℕ → ℕ} where
+  -- a has come to b in i steps, which changed n beats
+  pub record Walked (g : Goes step walk work) (a b : List ℕ) (i n : ℕ) : Type 0 where
+    pub form : Form b
+    pub long : length b ≡ length a
+    pub reached : b ≡ walk i a
+    pub summed : n ≡ work i a
+    pub few : n ≤ 4 * i
+
+  module _ (g : Goes step walk work) where
+    pub walked-start : {a : List ℕ} → Form a → Walked g a a 0 0
+    walked-start {a} f =
+        record {
+          form = f;
+          long = refl;
+          reached = sym (g .starts a .0);
+          summed = sym (g .starts a .1);
+          few = omega arith;
+        }
+
+    pub walked-turn : (a b c : List ℕ) (i n r : ℕ) → Walked g a b i n → length c ≡ length b → c ≡ step b
+        → r ≡ changed b (step b) → Walked g a c (i + 1) (n + r)
+    walked-turn a b c i n r w l e q =
+        let further : c ≡ walk (suc i) a = e ∙ ap step (w .reached) ∙ sym (g .goes i a) in
+        let more : r ≡ changed (walk i a) (walk (suc i) a) =
+        q ∙ ap₂ changed (w .reached) (ap step (w .reached) ∙ sym (g .goes i a)) in
+        record {
+          form = subst Form (sym e) (g .keeps (w .form));
+          long = l ∙ w .long;
+          reached = rw (add-one i) further;
+          summed = rw (add-one i) (omega (arith, w .summed, more, g .adds i a));
+          few = omega (arith, w .few, q, g .four (w .form));
+        }

@@ -148,8 +148,11 @@ downs-join : (q : ℕ) (c d : List ℕ) → downs q c ++ d ≡ downs q (c ++ d)
 downs-join zero c d = refl
 downs-join (suc q) c d = ap (λ (l : List ℕ). 0 ∷ l) (downs-join q c d)
 
+pub shape-append : (p q : ℕ) (c d : List ℕ) → ups p (downs q c) ++ d ≡ ups p (downs q (c ++ d))
+shape-append p q c d = ups-join p (downs q c) d ∙ ap (ups p) (downs-join q c d)
+
 pub shape-join : (p q : ℕ) (c : List ℕ) → ups p (downs q []) ++ c ≡ ups p (downs q c)
-shape-join p q c = ups-join p (downs q []) c ∙ ap (ups p) (downs-join q [] c)
+shape-join p q c = shape-append p q [] c
 
 -- one more at the end of the ones or of the zeros
 pub ups-snoc : (p : ℕ) (c : List ℕ) → ups p (1 ∷ c) ≡ 1 ∷ ups p c

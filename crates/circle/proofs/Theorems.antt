@@ -49,7 +49,7 @@ no-01-top {t} {s} {b} p e = by (view 0 b (schedule-plays p)) p e
     by (some u d z) q f = absurd (false≢true (sym f ∙ has01-some u d z))
 
 module _ {t s : ℕ} {a : List ℕ} (p : Schedule t s a) where
-  pub circle : {b : List ℕ} → Schedule t s b → OneWay t s a b
+  pub circle : {b : List ℕ} → Schedule t s b → OneWay steps t s a b
   circle q =
       let way = reaches p q in
       record {

@@ -4,7 +4,7 @@
 --     worked k b      the changed beats of k steps from b, added up
 --     isDip t s c     c sets down at its second beat, and is not the form after t ones and s zeros [D3e]
 --     dips t s k b    how many of k steps from b arrive at such a form
---     OneWay          exactly one number of steps from 1 to N(t, s) leads from a to b [D3b]
+--     OneWay          exactly one number from 1 to N(t, s) of steps of a walk leads from a to b [D3b]
 use mathlib.Core.Bool.{Bool, cond, _&&_}
 use mathlib.Core.List.{List, [], _∷_}
 use mathlib.Core.Path.{_≡_}
@@ -34,9 +34,9 @@ unfoldable pub dips : ℕ → ℕ → ℕ → List ℕ → ℕ
 dips t s zero b = 0
 dips t s (suc k) b = dips t s k b + cond (isDip t s (steps (suc k) b)) 1 0
 
-pub record OneWay (t s : ℕ) (a b : List ℕ) : Type 0 where
+pub record OneWay (walk : ℕ → List ℕ → List ℕ) (t s : ℕ) (a b : List ℕ) : Type 0 where
   pub count : ℕ
   pub from : 1 ≤ count
   pub to : count ≤ N t s
-  pub leads : steps count a ≡ b
-  pub only : (k : ℕ) → 1 ≤ k → k ≤ N t s → steps k a ≡ b → k ≡ count
+  pub leads : walk count a ≡ b
+  pub only : (k : ℕ) → 1 ≤ k → k ≤ N t s → walk k a ≡ b → k ≡ count

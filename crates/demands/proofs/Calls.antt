@@ -8,7 +8,7 @@ use mathlib.Core.Path.{_≡_, refl, _∙_, ap, sym}
 use Prim.Native.Nat.{ℕ, zero, suc}
 use native.Mathlib.Omega.{arith}
 use lib.ListN.{length, getD, take}
-use Rattle.refusal.specs.Answer.{left}
+use Rattle.refusal.specs.Answer.{answer, verdict, left}
 use Rattle.refusal.specs.declared.Answer.{Answer}
 use Rattle.refusal.specs.declared.Refusal.{Refusal}
 use Rattle.refusal.specs.declared.Verdict.{Verdict}
@@ -55,6 +55,11 @@ still : {why : Refusal} (v : Verdict) → Verdict.Refused why ≡ v → (done le
 still Verdict.Accepted e done l = let z : _≡_ {A = ℕ} 0 1 = cc in absurd (omega arith)
 still (Verdict.Refused why) e done l = refl
 
+-- and so does one that answers a number by its verdict, and works in one list
+stayed : {why : Refusal} {x : List (List ℕ)} (v : Verdict) (n : ℕ) (done b : List ℕ)
+    → Verdict.Refused why ≡ verdict (answer v n) → x ≡ left v done b ∷ [] → x ≡ b ∷ []
+stayed v n done b e f = f ∙ ap (λ (l : List ℕ). l ∷ []) (still v (e ∙ verdict-answer v n) done b)
+
 tree-kept : {n : ℕ} {b l r p x y z : List ℕ} {why : Refusal} (v : Verdict) → Verdict.Refused why ≡ v
     → Treed n b l r p v x y z → (x ≡ l) × (y ≡ r) × (z ≡ p)
 tree-kept v e (filled a q) = let z : _≡_ {A = ℕ} 0 1 = cc in absurd (omega arith)
@@ -71,13 +76,10 @@ pub call-unchanged : (c : Call) (why : Refusal) (m : List ℕ) (x : List (List �
 call-unchanged (count t s) why m x g = g .1
 call-unchanged (check t s b) why m x g = g .1
 call-unchanged (next t s b) why m x g =
-    let v = checked t s b in
-    g .1
-    ∙ ap (λ (l : List ℕ). l ∷ []) (still v (g .0 .0 ∙ verdict-answer v (walk.changed b (rule.next b))) (rule.next b) b)
+    stayed (checked t s b) (walk.changed b (rule.next b)) (rule.next b) b (g .0 .0) (g .1)
 call-unchanged (changed t s b) why m x g = g .1
 call-unchanged (run t s b k) why m x g =
-    let v = judge (runRows t s b k) in
-    g .1 ∙ ap (λ (l : List ℕ). l ∷ []) (still v (g .0 .0 ∙ verdict-answer v (walk.worked k b)) (walk.steps k b) b)
+    stayed (judge (runRows t s b k)) (walk.worked k b) (walk.steps k b) b (g .0 .0) (g .1)
 call-unchanged (run-changed t s b k) why m x g = g .1
 call-unchanged (number t s b) why m x g = g .1
 call-unchanged (form t s n out) why m x g = g .1 ∙ ap (λ (l : List ℕ). l ∷ []) (still _ (g .0 .0) _ out)

@@ -91,7 +91,7 @@ pub record Demand2 (t s : ℕ) : Type 0 where
 -- demand 3: as many steps as there are forms meet each form once and come back last to where they began; a step changes
 -- two or four beats, and the whole round 2·N(t, s) + 2·N(t−1, s−1) − 2
 pub record Demand3 (t s : ℕ) : Type 0 where
-  pub every-form-once : (a b : List ℕ) → Schedule t s a → Schedule t s b → OneWay t s a b
+  pub every-form-once : (a b : List ℕ) → Schedule t s a → Schedule t s b → OneWay steps t s a b
   pub start-last : (a : List ℕ) (p : Schedule t s a) → every-form-once a a p p .count ≡ N t s
   pub step-changes : (b : List ℕ) → Schedule t s b
       → (walk.changed b (rule.next b) ≡ 2) ⊎ (walk.changed b (rule.next b) ≡ 4)

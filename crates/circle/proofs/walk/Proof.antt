@@ -5,28 +5,28 @@ use mathlib.Core.Path.{_≡_}
 use Prim.Native.Nat.{_+_, _-_, _≤_}
 use native.Mathlib.Omega.{arith}
 use borrow.Author.Needs.{needs}
-use Rattle.circle.proofs.Forms.{Walked, walked-start, walked-turn}
+use Rattle.circle.proofs.Forms.{goes-on, Walked, walked-start, walked-turn}
 use Rattle.circle.proofs.walk.Statement.{statement}
 use Rattle.circle.proofs.walk.Tie as tie
 
 abbrev Inv-loop : tie.InvT-loop
-Inv-loop beats₀ k sum₀ counter₀ beats sum counter = (counter ≤ k) × Walked beats₀ beats counter sum
+Inv-loop beats₀ k sum₀ counter₀ beats sum counter = (counter ≤ k) × Walked goes-on beats₀ beats counter sum
 
 abbrev μ-loop : tie.MeasureT-loop
 μ-loop beats₀ k sum₀ counter₀ beats sum counter = k - counter
 
 loop-holds : tie.Need-loop-holds Inv-loop μ-loop
-loop-holds c = (omega arith, walked-start (c .before .pre .0))
+loop-holds c = (omega arith, walked-start goes-on (c .before .pre .0))
 
 -- one more step
 turn : (c : tie.After-step Inv-loop μ-loop)
-    → Walked (c .before .before .before .before .before .args .beats .now) (c .step .last .0)
+    → Walked goes-on (c .before .before .before .before .before .args .beats .now) (c .step .last .0)
     (c .before .before .before .loop .counter + 1)
     (c .before .before .before .loop .sum + c .step .result)
 turn c =
     let head = c .before .before .before in
-    walked-turn (head .before .before .args .beats .now) (head .loop .beats) (c .step .last .0) (head .loop .counter)
-    (head .loop .sum) (c .step .result)
+    walked-turn goes-on (head .before .before .args .beats .now) (head .loop .beats) (c .step .last .0)
+    (head .loop .counter) (head .loop .sum) (c .step .result)
     (head .loop .inv .1) (c .step .kept .0) (c .step .ensures .0) (c .step .ensures .1)
 
 step-requires : tie.Need-step-requires Inv-loop μ-loop
