@@ -242,6 +242,73 @@ uint64_t words_next_changed(uint64_t t, uint64_t s, const uint8_t *beats, size_t
     return changes(beats, length, words_front(beats, length));
 }
 
+/* ---- the step back ---- */
+
+static size_t bytes_skip(const uint8_t *beats, size_t length, size_t from, uint8_t beat) {
+    while (from < length && beats[from] == beat)
+        from++;
+    return from;
+}
+
+/* bytes_skip or words_skip. What takes one is compiled for each of them, and calls nothing by a pointer. */
+typedef size_t skipping(const uint8_t *beats, size_t length, size_t from, uint8_t beat);
+
+#define FOR_EACH_SKIP static inline __attribute__((always_inline))
+
+FOR_EACH_SKIP uint64_t changes_back(const uint8_t *beats, size_t length, skipping *skip) {
+    size_t zero = skip(beats, length, 0, 1);
+    if (zero == length) return 0;
+    if (zero > 1) return 2;
+    size_t one = skip(beats, length, zero, 0);
+    if (one == length) return 0;
+    return skip(beats, length, skip(beats, length, one, 1), 0) == length ? 2 : 4;
+}
+
+/* Takes the step back, and answers the beats that it changes. A 1 at the second place goes back behind the zeros in
+   front; where they are as many as the ones, before the last of them, which would set down with nothing in hand. A 0
+   there goes back behind the 1 after the next zeros, or, where there is none, to the end. */
+FOR_EACH_SKIP uint64_t step_back(uint8_t *beats, size_t length, skipping *skip) {
+    size_t zero = skip(beats, length, 0, 1);
+    if (zero == length) return 0;
+    size_t one = skip(beats, length, zero, 0);
+    if (zero > 1) {
+        beats[zero - 1] = 0;
+        beats[one - zero == zero ? one - 2 : one - 1] = 1;
+        return 2;
+    }
+    if (one == length) return 0;
+    zero = skip(beats, length, one, 1);
+    one = skip(beats, length, zero, 0);
+    beats[1] = 1;
+    beats[zero - 1] = 0;
+    if (one == length) return 2;
+    beats[one - 1] = 1;
+    beats[one] = 0;
+    return 4;
+}
+
+uint64_t bytes_previous(uint64_t t, uint64_t s, uint8_t *beats, size_t length) {
+    uint64_t refusal = bytes_check(t, s, beats, length).refusal;
+    if (!refusal) step_back(beats, length, bytes_skip);
+    return refusal;
+}
+
+uint64_t bytes_previous_changed(uint64_t t, uint64_t s, const uint8_t *beats, size_t length) {
+    if (bytes_check(t, s, beats, length).refusal) return 0;
+    return changes_back(beats, length, bytes_skip);
+}
+
+uint64_t words_previous(uint64_t t, uint64_t s, uint8_t *beats, size_t length) {
+    uint64_t refusal = words_check(t, s, beats, length).refusal;
+    if (!refusal) step_back(beats, length, words_skip);
+    return refusal;
+}
+
+uint64_t words_previous_changed(uint64_t t, uint64_t s, const uint8_t *beats, size_t length) {
+    if (words_check(t, s, beats, length).refusal) return 0;
+    return changes_back(beats, length, words_skip);
+}
+
 /* ---- the run ---- */
 
 static uint64_t run_refusal(uint64_t t, uint64_t s, const uint8_t *beats, size_t length, uint64_t steps) {
@@ -312,6 +379,28 @@ uint64_t loopless_run_changed(uint64_t t, uint64_t s, const uint8_t *beats, size
     if (run_refusal(t, s, beats, length, steps)) return 0;
     memcpy(own, beats, length);
     return loopless_walk(t, own, length, steps);
+}
+
+/* ---- the run back ---- */
+
+static uint64_t scan_walk_back(uint8_t *beats, size_t length, uint64_t steps) {
+    uint64_t sum = 0;
+    while (steps-- > 0)
+        sum += step_back(beats, length, bytes_skip);
+    return sum;
+}
+
+uint64_t scan_run_back(uint64_t t, uint64_t s, uint8_t *beats, size_t length, uint64_t steps) {
+    uint64_t refusal = run_refusal(t, s, beats, length, steps);
+    if (!refusal) scan_walk_back(beats, length, steps);
+    return refusal;
+}
+
+uint64_t scan_run_back_changed(uint64_t t, uint64_t s, const uint8_t *beats, size_t length, uint64_t steps) {
+    uint8_t own[BEATS];
+    if (run_refusal(t, s, beats, length, steps)) return 0;
+    memcpy(own, beats, length);
+    return scan_walk_back(own, length, steps);
 }
 
 /* ---- the number ---- */

@@ -26,11 +26,19 @@ uint64_t bytes_next_changed(uint64_t t, uint64_t s, const uint8_t *beats, size_t
 uint64_t words_next(uint64_t t, uint64_t s, uint8_t *beats, size_t length);
 uint64_t words_next_changed(uint64_t t, uint64_t s, const uint8_t *beats, size_t length);
 
+/* The same check, then scans for the ones and zeros in front, and for those that follow where the second beat is 0. */
+uint64_t bytes_previous(uint64_t t, uint64_t s, uint8_t *beats, size_t length);
+uint64_t bytes_previous_changed(uint64_t t, uint64_t s, const uint8_t *beats, size_t length);
+uint64_t words_previous(uint64_t t, uint64_t s, uint8_t *beats, size_t length);
+uint64_t words_previous_changed(uint64_t t, uint64_t s, const uint8_t *beats, size_t length);
+
 /* One check, then the steps. scan: each step scans for its place. loopless: each step knows it from the last. */
 uint64_t scan_run(uint64_t t, uint64_t s, uint8_t *beats, size_t length, uint64_t steps);
 uint64_t scan_run_changed(uint64_t t, uint64_t s, const uint8_t *beats, size_t length, uint64_t steps);
 uint64_t loopless_run(uint64_t t, uint64_t s, uint8_t *beats, size_t length, uint64_t steps);
 uint64_t loopless_run_changed(uint64_t t, uint64_t s, const uint8_t *beats, size_t length, uint64_t steps);
+uint64_t scan_run_back(uint64_t t, uint64_t s, uint8_t *beats, size_t length, uint64_t steps);
+uint64_t scan_run_back_changed(uint64_t t, uint64_t s, const uint8_t *beats, size_t length, uint64_t steps);
 
 /* bytes: the check by bytes and a branch on each beat. masks: the check by words and no branch on a beat.
    words: the beats packed into words, of which only the ones are visited. */

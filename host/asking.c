@@ -131,6 +131,19 @@ static void expect_left(const uint8_t *expected) {
 
 typedef uint64_t counts_function(uint64_t t, uint64_t s);
 typedef uint64_t reading_function(uint64_t t, uint64_t s, const uint8_t *beats, size_t length);
+typedef uint64_t stepping_function(uint64_t t, uint64_t s, uint8_t *beats, size_t length);
+typedef uint64_t running_function(uint64_t t, uint64_t s, uint8_t *beats, size_t length, uint64_t steps);
+typedef uint64_t tracing_function(uint64_t t, uint64_t s, const uint8_t *beats, size_t length, uint64_t steps);
+
+/* The runs one way along the circle. */
+struct way {
+    const char *name, *changed_name;
+    running_function *run;
+    tracing_function *changed;
+};
+
+static const struct way ON = {"gv_run", "gv_run_changed", gv_run, gv_run_changed};
+static const struct way BACK = {"gv_run_back", "gv_run_back_changed", gv_run_back, gv_run_back_changed};
 
 static void ask_counts(const char *name, counts_function *call, const struct input *in, uint64_t expected) {
     begin(name, in, 0, NULL, 0);
@@ -144,25 +157,43 @@ static void ask_reading(const char *name, reading_function *call, const struct i
     expect_left(in->beats);
 }
 
-static void ask_next(const struct input *in, uint64_t refusal, const uint8_t *left) {
+static void ask_step(const char *name, stepping_function *call, const struct input *in, uint64_t refusal,
+                     const uint8_t *left) {
     uint8_t *beats = lend(in->beats, in->length);
-    begin("gv_next", in, 1, NULL, 0);
-    expect(refusal, gv_next(in->t, in->s, beats, in->length));
+    begin(name, in, 1, NULL, 0);
+    expect(refusal, call(in->t, in->s, beats, in->length));
     expect_left(left);
 }
 
-static void ask_run(const struct input *in, uint64_t steps, uint64_t refusal, const uint8_t *left) {
+static void ask_run(const struct way *way, const struct input *in, uint64_t steps, uint64_t refusal,
+                    const uint8_t *left) {
     uint8_t *beats = lend(in->beats, in->length);
-    begin("gv_run", in, 1, "steps", steps);
-    expect(refusal, gv_run(in->t, in->s, beats, in->length, steps));
+    begin(way->name, in, 1, "steps", steps);
+    expect(refusal, way->run(in->t, in->s, beats, in->length, steps));
     expect_left(left);
 }
 
-static void ask_run_changed(const struct input *in, uint64_t steps, uint64_t changed) {
+static void ask_run_changed(const struct way *way, const struct input *in, uint64_t steps, uint64_t changed) {
     const uint8_t *beats = lend_for_reading(in->beats, in->length);
-    begin("gv_run_changed", in, 1, "steps", steps);
-    expect(changed, gv_run_changed(in->t, in->s, beats, in->length, steps));
+    begin(way->changed_name, in, 1, "steps", steps);
+    expect(changed, way->changed(in->t, in->s, beats, in->length, steps));
     expect_left(in->beats);
+}
+
+static void ask_refused_run(const struct way *way, const struct input *in, uint64_t steps, uint64_t refusal) {
+    ask_run(way, in, steps, refusal, in->beats);
+    ask_run_changed(way, in, steps, 0);
+}
+
+/* A run one way, and then as many steps the other way: they bring back what was lent, and change as many beats. */
+static void ask_there_and_back(const struct way *there, const struct way *back, const struct input *in,
+                               uint64_t steps, uint64_t changed, const uint8_t *left) {
+    struct input after = *in;
+    memcpy(after.beats, left, in->length);
+    ask_run(there, in, steps, 0, left);
+    ask_run_changed(there, in, steps, changed);
+    ask_run(back, &after, steps, 0, in->beats);
+    ask_run_changed(back, &after, steps, changed);
 }
 
 static void ask_form(const struct input *in, uint64_t number, uint64_t refusal, const uint8_t *left) {
@@ -187,16 +218,40 @@ void verify_counts(uint64_t t, uint64_t s) {
     ask_counts("gv_count", gv_count, &in, verdict.refusal != 0 ? 0 : count_by_formula(t, s));
 }
 
+/* Writes the form so many steps on, and answers the beats changed at each of them, added up. */
+static uint64_t later(const struct input *in, uint64_t steps, uint8_t *out) {
+    memcpy(out, in->beats, in->length);
+    return walk(in->t, in->s, out, steps);
+}
+
+/* Writes the form so many steps back, and answers the same: what as many steps on change, which lead to the form. */
+static uint64_t earlier(const struct input *in, uint64_t steps, uint8_t *out) {
+    uint8_t walked[ROOM];
+    uint64_t changed;
+    form_before(in->t, in->s, in->beats, steps, out);
+    memcpy(walked, out, in->length);
+    changed = walk(in->t, in->s, walked, steps);
+    rely(memcmp(walked, in->beats, in->length) == 0, "an earlier form does not lead to the form", in->t, in->s);
+    return changed;
+}
+
+void verify_previous(const struct input *in, uint64_t refusal, uint64_t changed, const uint8_t *left) {
+    ask_reading("gv_previous_changed", gv_previous_changed, in, changed);
+    ask_step("gv_previous", gv_previous, in, refusal, left);
+}
+
 void verify_schedule(const struct input *in) {
     struct verdict verdict = judge_schedule(in->t, in->s, in->beats, in->length);
-    uint64_t number = 0, changed = 0;
-    uint8_t next[ROOM];
+    uint64_t number = 0, changed = 0, changed_back = 0;
+    uint8_t next[ROOM], previous[ROOM];
     memcpy(next, in->beats, in->length);
+    memcpy(previous, in->beats, in->length);
     if (verdict.refusal == 0) {
         number = number_by_groups(in->t, in->s, in->beats);
         changed = step(in->t, in->s, next);
         rely(number_by_groups(in->t, in->s, next) == (number + 1) % count_by_formula(in->t, in->s),
              "a step does not lead to the next number", in->t, in->s);
+        changed_back = earlier(in, 1, previous);
     }
     ask_reading("gv_check_refusal", gv_check_refusal, in, verdict.refusal);
     ask_reading("gv_check_place", gv_check_place, in, verdict.place);
@@ -204,18 +259,26 @@ void verify_schedule(const struct input *in) {
     ask_reading("gv_number_place", gv_number_place, in, verdict.place);
     ask_reading("gv_number", gv_number, in, number);
     ask_reading("gv_next_changed", gv_next_changed, in, changed);
-    ask_next(in, verdict.refusal, next);
+    ask_step("gv_next", gv_next, in, verdict.refusal, next);
+    verify_previous(in, verdict.refusal, changed_back, previous);
 }
 
 void verify_run(const struct input *in, uint64_t steps) {
-    struct verdict verdict = judge_run(in->t, in->s, in->beats, in->length, steps);
-    uint64_t changed = 0;
     uint8_t left[ROOM];
-    memcpy(left, in->beats, in->length);
-    if (verdict.refusal == 0)
-        changed = walk(in->t, in->s, left, steps);
-    ask_run(in, steps, verdict.refusal, left);
-    ask_run_changed(in, steps, changed);
+    uint64_t refusal = judge_run(in->t, in->s, in->beats, in->length, steps).refusal;
+    if (refusal != 0)
+        ask_refused_run(&ON, in, steps, refusal);
+    else
+        ask_there_and_back(&ON, &BACK, in, steps, later(in, steps, left), left);
+}
+
+void verify_run_back(const struct input *in, uint64_t steps) {
+    uint8_t left[ROOM];
+    uint64_t refusal = judge_run(in->t, in->s, in->beats, in->length, steps).refusal;
+    if (refusal != 0)
+        ask_refused_run(&BACK, in, steps, refusal);
+    else
+        ask_there_and_back(&BACK, &ON, in, steps, earlier(in, steps, left), left);
 }
 
 void verify_form(const struct input *in, uint64_t number) {
@@ -258,12 +321,24 @@ static uint64_t next_of_zeros(uint64_t t, uint64_t s, const uint8_t *beats, size
     return gv_next(t, s, (uint8_t *)beats, length);
 }
 
+static uint64_t previous_of_zeros(uint64_t t, uint64_t s, const uint8_t *beats, size_t length) {
+    return gv_previous(t, s, (uint8_t *)beats, length);
+}
+
 static uint64_t run_of_zeros(uint64_t t, uint64_t s, const uint8_t *beats, size_t length) {
     return gv_run(t, s, (uint8_t *)beats, length, 1);
 }
 
 static uint64_t run_changed_of_zeros(uint64_t t, uint64_t s, const uint8_t *beats, size_t length) {
     return gv_run_changed(t, s, beats, length, 1);
+}
+
+static uint64_t run_back_of_zeros(uint64_t t, uint64_t s, const uint8_t *beats, size_t length) {
+    return gv_run_back(t, s, (uint8_t *)beats, length, 1);
+}
+
+static uint64_t run_back_changed_of_zeros(uint64_t t, uint64_t s, const uint8_t *beats, size_t length) {
+    return gv_run_back_changed(t, s, beats, length, 1);
 }
 
 void verify_long_slice(void) {
@@ -276,7 +351,11 @@ void verify_long_slice(void) {
     ask_long("gv_form", form_of_zeros, zeros, 3);
     ask_long("gv_next", next_of_zeros, zeros, 3);
     ask_long("gv_next_changed", gv_next_changed, zeros, 0);
+    ask_long("gv_previous", previous_of_zeros, zeros, 3);
+    ask_long("gv_previous_changed", gv_previous_changed, zeros, 0);
     ask_long("gv_run", run_of_zeros, zeros, 3);
     ask_long("gv_run_changed", run_changed_of_zeros, zeros, 0);
+    ask_long("gv_run_back", run_back_of_zeros, zeros, 3);
+    ask_long("gv_run_back_changed", run_back_changed_of_zeros, zeros, 0);
     munmap((void *)zeros, LONG_LENGTH);
 }

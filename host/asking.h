@@ -32,11 +32,17 @@ void verify_version(void);
 /* gv_count and what belongs to it. */
 void verify_counts(uint64_t t, uint64_t s);
 
-/* Everything that is asked of counts and a slice alone: check, number, next. */
+/* Everything that is asked of counts and a slice alone: check, number, next, previous. */
 void verify_schedule(const struct input *in);
 
-/* gv_run and gv_run_changed. */
+/* gv_previous and gv_previous_changed, held to what the caller gives. */
+void verify_previous(const struct input *in, uint64_t refusal, uint64_t changed, const uint8_t *left);
+
+/* gv_run and gv_run_changed; and, where that is no refusal, as many steps back from where it leads to. */
 void verify_run(const struct input *in, uint64_t steps);
+
+/* gv_run_back and gv_run_back_changed, and as many steps on. */
+void verify_run_back(const struct input *in, uint64_t steps);
 
 /* gv_form; the slice is lent to be written. */
 void verify_form(const struct input *in, uint64_t number);

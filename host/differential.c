@@ -95,6 +95,12 @@ static void damage(struct input *in) {
     }
 }
 
+/* As many steps on and back. */
+static void verify_runs(const struct input *in, uint64_t steps) {
+    verify_run(in, steps);
+    verify_run_back(in, steps);
+}
+
 /* The examples of the manual. */
 
 /* The forms of t, s in the order of their numbers, and the beats that the step from each changes. */
@@ -124,19 +130,22 @@ static void read_digits(struct input *in, uint64_t t, uint64_t s, const char *di
 }
 
 static void verify_example(const struct example *example) {
-    uint64_t number;
+    uint64_t number, forms = count_by_formula(example->t, example->s);
     for (number = 0; example->forms[number] != NULL; number++) {
-        struct input in = {0};
+        struct input in = {0}, before = {0};
+        uint64_t number_before = number > 0 ? number - 1 : forms - 1;
         uint8_t left[ROOM];
         read_digits(&in, example->t, example->s, example->forms[number]);
+        read_digits(&before, example->t, example->s, example->forms[number_before]);
         rely(number_by_groups(in.t, in.s, in.beats) == number, "an example has another number", in.t, in.s);
         memcpy(left, in.beats, in.length);
         rely(step(in.t, in.s, left) == example->changed[number], "an example's step differs", in.t, in.s);
         verify_schedule(&in);
-        verify_run(&in, number);
+        verify_previous(&in, 0, example->changed[number_before], before.beats);
+        verify_runs(&in, number);
         verify_form(&in, number);
     }
-    rely(count_by_formula(example->t, example->s) == number, "an example's count", example->t, example->s);
+    rely(forms == number, "an example's count", example->t, example->s);
     verify_counts(example->t, example->s);
 }
 
@@ -229,6 +238,35 @@ static void two_ways(void) {
 
 /* Small counts and short lists: everything. */
 
+/* The most forms of small counts. */
+enum { KEPT = 4862 };
+
+/* The circle is walked on and kept, and then walked back from its first form. */
+static void verify_circle_back(uint64_t t, uint64_t s) {
+    static uint8_t order[KEPT][ROOM];
+    static uint64_t changed[KEPT];
+    uint64_t number, forms = count_by_formula(t, s);
+    struct input in = {t, s, t + s, {0}};
+    rely(forms <= KEPT, "the circle is too long to keep", t, s);
+    write_first(t, s, in.beats);
+    for (number = 0; number < forms; number++) {
+        memcpy(order[number], in.beats, t + s);
+        changed[number] = step(t, s, in.beats);
+    }
+    for (number = forms; number > 0; number--) {
+        verify_previous(&in, 0, changed[number - 1], order[number - 1]);
+        memcpy(in.beats, order[number - 1], t + s);
+    }
+}
+
+/* Every circle of small counts. [V15] */
+static void circles_back(void) {
+    uint64_t t, s;
+    for (t = 0; t <= extent.small_count; t++)
+        for (s = 0; s <= t; s++)
+            verify_circle_back(t, s);
+}
+
 /* The numbers at the ends and past the last form, with every length up to past t + s. */
 static void verify_form_edges(uint64_t t, uint64_t s) {
     uint64_t forms = count_by_formula(t, s);
@@ -247,14 +285,19 @@ static void verify_small_form(uint64_t t, uint64_t s, uint64_t number, const uin
     verify_form(&in, number);
     memcpy(in.beats, beats, t + s);
     verify_schedule(&in);
-    verify_run(&in, 0);
-    verify_run(&in, 1);
-    verify_run(&in, 2);
-    verify_run(&in, 3 + below(40));
-    verify_run(&in, GV_MAX_STEPS + 1);
-    verify_run(&in, UINT64_MAX);
-    if (number % 16 == 0)
-        verify_run(&in, count_by_formula(t, s));
+    verify_runs(&in, 0);
+    verify_runs(&in, 1);
+    verify_runs(&in, 2);
+    verify_runs(&in, 3 + below(40));
+    verify_runs(&in, GV_MAX_STEPS + 1);
+    verify_runs(&in, UINT64_MAX);
+    if (number % 16 == 0) {
+        uint64_t forms = count_by_formula(t, s);
+        verify_runs(&in, forms);
+        verify_runs(&in, number);
+        verify_runs(&in, number + 1);
+        verify_runs(&in, forms + number + 1);
+    }
 }
 
 static void small_forms(void) {
@@ -319,7 +362,7 @@ static void verify_list(struct input *in) {
     for (in->t = 0; in->t <= GV_MAX_TASKS + 1; in->t++)
         for (in->s = 0; in->s <= GV_MAX_TASKS + 2; in->s++) {
             verify_schedule(in);
-            verify_run(in, steps[(in->t + in->beats[0]) % 5]);
+            verify_runs(in, steps[(in->t + in->beats[0]) % 5]);
         }
 }
 
@@ -338,7 +381,7 @@ static void lists_of_three(void) {
             for (in.t = 0; in.t <= in.length; in.t++) {
                 in.s = in.length - in.t;
                 verify_schedule(&in);
-                verify_run(&in, GV_MAX_STEPS + 1);
+                verify_runs(&in, GV_MAX_STEPS + 1);
             }
         while (next_list(&in, 3));
 }
@@ -355,6 +398,18 @@ static void counts(void) {
         verify_counts(some_number(below(GV_MAX_TASKS + 8)), some_number(below(GV_MAX_TASKS + 8)));
 }
 
+/* The forms on both sides of the closing step, and runs up to it and past it, on and back. */
+static void verify_closing(uint64_t t, uint64_t s) {
+    uint64_t steps, number, forms = count_by_formula(t, s);
+    for (number = 0; number < 4; number++) {
+        struct input in = {t, s, t + s, {0}};
+        form_by_groups(t, s, (number + forms - 1) % forms, in.beats);
+        verify_schedule(&in);
+        for (steps = 0; steps < 5; steps++)
+            verify_runs(&in, steps);
+    }
+}
+
 static void large_forms(void) {
     uint64_t t, s;
     unsigned turn;
@@ -362,11 +417,15 @@ static void large_forms(void) {
     for (t = 0; t <= GV_MAX_TASKS; t++)
         for (s = 0; s <= t; s++) {
             verify_form_edges(t, s);
+            verify_closing(t, s);
             for (turn = 0; turn < extent.large; turn++) {
                 some_form(&in, t, s);
                 verify_schedule(&in);
-                verify_run(&in, below(100));
-                verify_run(&in, some_number(GV_MAX_STEPS + 1));
+                verify_runs(&in, below(100));
+                if (turn % 2 == 0)
+                    verify_run(&in, some_number(GV_MAX_STEPS + 1));
+                else
+                    verify_run_back(&in, some_number(GV_MAX_STEPS + 1));
                 verify_form(&in, below(count_by_formula(t, s)));
                 damage(&in);
                 verify_schedule(&in);
@@ -395,22 +454,35 @@ static void mixed(void) {
         if (turn % 8 > 5)
             in.s = some_number(in.s);
         verify_schedule(&in);
-        verify_run(&in, turn % 3 == 0 ? UINT64_MAX - below(UINT64_MAX - GV_MAX_STEPS) : below(20));
+        verify_runs(&in, turn % 3 == 0 ? UINT64_MAX - below(UINT64_MAX - GV_MAX_STEPS) : below(20));
         verify_form(&in, some_form_number(&in));
     }
 }
 
-/* The longest runs, and those past them, from forms of all sizes. */
+/* The longest runs from the first form, and those past them. */
+static void verify_longest(uint64_t t, uint64_t s) {
+    struct input in = {t, s, t + s, {0}};
+    write_first(t, s, in.beats);
+    verify_runs(&in, GV_MAX_STEPS);
+    verify_runs(&in, GV_MAX_STEPS + 1);
+}
+
+/* The same of the smallest and the largest counts, and from forms of all sizes. */
 static void long_runs(void) {
+    static const uint64_t named[][2] = {
+        {0, 0}, {1, 0}, {1, 1}, {2, 1}, {GV_MAX_TASKS, 0}, {GV_MAX_TASKS, 1}, {GV_MAX_TASKS, GV_MAX_TASKS},
+    };
     unsigned turn;
+    for (turn = 0; turn < sizeof named / sizeof named[0]; turn++)
+        verify_longest(named[turn][0], named[turn][1]);
     for (turn = 0; turn < extent.runs; turn++) {
         struct input in = {0};
         uint64_t t = turn % 4 == 0 ? below(6) : below(GV_MAX_TASKS + 1);
         some_form(&in, t, turn % 4 == 1 ? t : below(t + 1));
-        verify_run(&in, turn % 8 == 7 ? below(GV_MAX_STEPS + 1) : GV_MAX_STEPS);
-        verify_run(&in, GV_MAX_STEPS + 1);
-        verify_run(&in, ((uint64_t)GV_MAX_STEPS << 32) + below(3));
-        verify_run(&in, UINT64_MAX);
+        verify_runs(&in, turn % 8 == 7 ? below(GV_MAX_STEPS + 1) : GV_MAX_STEPS);
+        verify_runs(&in, GV_MAX_STEPS + 1);
+        verify_runs(&in, ((uint64_t)GV_MAX_STEPS << 32) + below(3));
+        verify_runs(&in, UINT64_MAX);
     }
 }
 
@@ -421,6 +493,7 @@ static const struct {
     {"version", verify_version},
     {"two ways of the independent side", two_ways},
     {"examples", examples},
+    {"circles back", circles_back},
     {"small forms", small_forms},
     {"damaged forms", damaged_forms},
     {"lists of 0 and 1", lists_of_two},

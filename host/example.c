@@ -1,8 +1,8 @@
 /*
  * A scoring host in small: ships the form of an order, counts the forms that it chose from, takes the sheet back,
- * goes on to the next form and to the third after it, and turns a wrong sheet away. Prints a line for each, and
- * ends with status 1 where one is not as it should be. The forms are those of the manual, "Examples on both
- * sides".
+ * goes on to the next form and to the third after it, goes all four back, and turns a wrong sheet away. Prints a
+ * line for each, and ends with status 1 where one is not as it should be. The forms are those of the manual,
+ * "Examples on both sides".
  */
 #include <inttypes.h>
 #include <stdio.h>
@@ -82,6 +82,14 @@ static void run_on(uint8_t beats[BEATS]) {
     require(strcmp(digits(beats, BEATS), "10110") == 0 && changed == 6, "another form is 3 steps on");
 }
 
+/* The four steps back, from the last form to the one that was shipped, as a spoiled bundle is reprinted. */
+static void run_back(uint8_t beats[BEATS]) {
+    uint64_t changed = gv_run_back_changed(T, S, beats, BEATS, 4);
+    accept(gv_run_back(T, S, beats, BEATS, 4));
+    tell("4 steps back", beats, changed);
+    require(strcmp(digits(beats, BEATS), "11010") == 0 && changed == 10, "another form is 4 steps back");
+}
+
 /* A sheet that sets down a second task with none in hand. */
 static void turn_away(void) {
     static const uint8_t wrong[4] = {1, 0, 0, 1};
@@ -101,6 +109,7 @@ int main(void) {
     score(beats);
     go_on(beats);
     run_on(beats);
+    run_back(beats);
     turn_away();
     return EXIT_SUCCESS;
 }

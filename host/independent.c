@@ -231,3 +231,9 @@ uint64_t number_by_groups(uint64_t t, uint64_t s, const uint8_t *beats) {
 void form_by_groups(uint64_t t, uint64_t s, uint64_t number, uint8_t *out) {
     write_at_place(t, s, number == 0 ? count_by_formula(t, s) - 1 : number - 1, out);
 }
+
+/* Its number is as many below, and after 0 comes the last one. */
+void form_before(uint64_t t, uint64_t s, const uint8_t *beats, uint64_t steps, uint8_t *out) {
+    uint64_t forms = count_by_formula(t, s), number = number_by_groups(t, s, beats), fewer = steps % forms;
+    form_by_groups(t, s, number >= fewer ? number - fewer : number + (forms - fewer), out);
+}

@@ -5,6 +5,9 @@
  * A number is found in two ways. By the steps of the rule, which is what a number is, where there are few
  * forms; by the groups of list S ("A second fact") and the closed formula, where there are too many to walk.
  * host/differential.c holds the two to each other.
+ *
+ * No step is undone here. An earlier form is the form of an earlier number, and what lies between the two is
+ * walked on from it.
  */
 #ifndef INDEPENDENT_H
 #define INDEPENDENT_H
@@ -53,5 +56,8 @@ uint64_t walk(uint64_t t, uint64_t s, uint8_t *beats, uint64_t steps);
 /* The number of a form and the form of a number, by the groups of list S. */
 uint64_t number_by_groups(uint64_t t, uint64_t s, const uint8_t *beats);
 void form_by_groups(uint64_t t, uint64_t s, uint64_t number, uint8_t *out);
+
+/* The form from which as many steps lead to this one, by the two. */
+void form_before(uint64_t t, uint64_t s, const uint8_t *beats, uint64_t steps, uint8_t *out);
 
 #endif

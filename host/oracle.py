@@ -3,8 +3,9 @@ crates/.
 
 count(t, s) and check(t, s, beats) answer refusal and place as the document's table does; successor(t, s, beats) is the
 step. form_of(t, s, n) and number_of(t, s, beats) are the form of a number and the number of a form, by the groups of
-source 000's list and not by walking. tree(n, ..) and schedule_of_tree(n, ..) go by nested pairs, read from the beats or
-from the tables.
+source 000's list and not by walking. No step is undone: run_back(t, s, beats, k) takes the form of an earlier number
+and walks on from it. tree(n, ..) and schedule_of_tree(n, ..) go by nested pairs, read from the beats or from the
+tables.
 """
 from functools import cache
 from itertools import product
@@ -102,20 +103,31 @@ def changed(old, new):
     return sum(1 for a, b in zip(old, new) if a != b)
 
 
-# [E6]
-def run(t, s, beats, k):
-    """Refusal, place, changed beats and the schedule left."""
+def may_run(t, s, beats, k):
+    """The refusal and the place of a run, on or back."""
     refusal, place = check(t, s, beats)
-    if not refusal and k > MOST_STEPS:
-        refusal = 13
-    if refusal:
-        return (refusal, place, 0, beats)
-    worked = 0
+    return (13, 0) if not refusal and k > MOST_STEPS else (refusal, place)
+
+
+@cache
+def walked(t, s, beats, k):
+    """Changed beats and the schedule left of k steps. The beats are a tuple, so that no walk is made twice."""
+    worked, beats = 0, [*beats]
     for _ in range(k):
         after = successor(t, s, beats)
         worked += changed(beats, after)
         beats = after
-    return (0, 0, worked, beats)
+    return worked, tuple(beats)
+
+
+# [E6]
+def run(t, s, beats, k):
+    """Refusal, place, changed beats and the schedule left."""
+    refusal, place = may_run(t, s, beats, k)
+    if refusal:
+        return (refusal, place, 0, beats)
+    worked, left = walked(t, s, tuple(beats), k)
+    return (0, 0, worked, [*left])
 
 
 @cache
@@ -153,6 +165,17 @@ def form_of(t, s, n):
 def number_of(t, s, beats):
     """The number of a schedule."""
     return (place_of(t, s, beats) + 1) % forms(t, s)
+
+
+def run_back(t, s, beats, k):
+    """What run gives, of k steps back: the form k numbers before this one, and what k steps on from there change."""
+    refusal, place = may_run(t, s, beats, k)
+    if refusal:
+        return (refusal, place, 0, beats)
+    earlier = form_of(t, s, (number_of(t, s, beats) - k) % forms(t, s))
+    _, _, worked, arrived = run(t, s, earlier, k)
+    sure(arrived == beats, f"{k} steps on from the form {k} numbers before one of ({t}, {s}) do not lead to it")
+    return (0, 0, worked, earlier)
 
 
 def number(t, s, beats):

@@ -32,7 +32,7 @@ TABLE_1 = range(9)  # the rows t of Table 1 of source 000; row t has the columns
 FIGURE_2_3, WORDS = "4 4", 14  # the counts of the words of Figure 2.3 of source 001, and how many words there are
 THROUGH = {
     "cases_ground": {"counts": [f"of {t}" for t in range(LARGEST + 1)], "lists": [f"of {t}" for t in TABLE_1]},
-    "cases_walk": {"order": pairs(4), "round": pairs(8)},
+    "cases_walk": {"order": pairs(4), "round": pairs(8), "order_back": pairs(4), "round_back": pairs(8)},
     "cases_number": {"both": pairs(8), "ends": pairs(LARGEST)},
     "cases_tree": {"trees": [*range(8)], "combinations": [1, 2]},
     "cases_record": {"records": pairs(7), "scattered": [*range(8, LARGEST + 1)]},
@@ -40,7 +40,15 @@ THROUGH = {
 # How many lines each program has of the other kinds, and those of them that the manual gives.
 STATED = {
     "cases_ground": {"count": 8, "check": 42},
-    "cases_walk": {"next": 12, "changed": 12, "run": 19},
+    "cases_walk": {
+        "next": 12,
+        "changed": 12,
+        "run": 19,
+        "previous": 16,
+        "previous_changed": 16,
+        "run_back": 25,
+        "run_back_changed": 25,
+    },
     "cases_number": {"number": 33, "form": 25, "sheet": 26},
     "cases_tree": {"tree": 69, "back": 98, "damage": 12},
     "cases_record": {"write": 261, "read": 271, "filled": 16, "changes": 9},
@@ -121,18 +129,45 @@ def digest(forms):
     return value
 
 
-def round_of(t, s):
-    forms = circle(int(t), int(s))
+def turned(forms):
+    """The forms of a circle in their order back, from the same form."""
+    return forms[:1] + forms[:0:-1]
+
+
+def order_back(t, s):
+    forms = [text_of(f) for f in turned(circle(int(t), int(s)))]
+    return " ".join(forms + forms[:1])
+
+
+def round_through(t, s, forms):
+    """What is said of a round of these forms, in their order."""
     worked = sum(oracle.changed(a, b) for a, b in zip(forms, forms[1:] + forms[:1]))
-    if int(t) >= 2 and int(s) >= 1:
-        right = 2 * len(forms) + 2 * oracle.forms(int(t) - 1, int(s) - 1) - 2
+    if t >= 2 and s >= 1:
+        right = 2 * len(forms) + 2 * oracle.forms(t - 1, s - 1) - 2
         sure(worked == right, f"the round of ({t}, {s}) changes {worked} beats, and by the manual {right}")
     return f"{len(forms)} {worked} {digest(forms)} {text_of(forms[0])}"
 
 
-def run(k, t, s, text):
-    refusal, place, worked, left = oracle.run(int(t), int(s), beats_of(text), int(k))
+def round_of(t, s):
+    t, s = int(t), int(s)
+    return round_through(t, s, circle(t, s))
+
+
+def round_back(t, s):
+    t, s = int(t), int(s)
+    return round_through(t, s, turned(circle(t, s)))
+
+
+def with_answer(refusal, place, worked, left):
     return f"{refused(refusal, place) if refusal else worked} {text_of(left)}"
+
+
+def without_left(line):
+    return line.rsplit(" ", 1)[0]
+
+
+def run(k, t, s, text):
+    return with_answer(*oracle.run(int(t), int(s), beats_of(text), int(k)))
 
 
 def step(t, s, text):
@@ -140,7 +175,23 @@ def step(t, s, text):
 
 
 def changed(t, s, text):
-    return step(t, s, text).rsplit(" ", 1)[0]
+    return without_left(step(t, s, text))
+
+
+def run_back(k, t, s, text):
+    return with_answer(*oracle.run_back(int(t), int(s), beats_of(text), int(k)))
+
+
+def run_back_changed(k, t, s, text):
+    return without_left(run_back(k, t, s, text))
+
+
+def step_back(t, s, text):
+    return run_back("1", t, s, text)
+
+
+def step_back_changed(t, s, text):
+    return run_back_changed("1", t, s, text)
 
 
 def both(t, s):
@@ -334,6 +385,12 @@ KINDS = [
     ("run", re.compile(r"run (\d+) (\d+) (\d+) (\S+): (.*)"), run),
     ("next", re.compile(r"next (\d+) (\d+) (\S+): (.*)"), step),
     ("changed", re.compile(r"changed (\d+) (\d+) (\S+): (.*)"), changed),
+    ("order_back", re.compile(r"order_back (\d+) (\d+): (.*)"), order_back),
+    ("round_back", re.compile(r"round_back (\d+) (\d+): (.*)"), round_back),
+    ("run_back", re.compile(r"run_back (\d+) (\d+) (\d+) (\S+): (.*)"), run_back),
+    ("run_back_changed", re.compile(r"run_back_changed (\d+) (\d+) (\d+) (\S+): (.*)"), run_back_changed),
+    ("previous", re.compile(r"previous (\d+) (\d+) (\S+): (.*)"), step_back),
+    ("previous_changed", re.compile(r"previous_changed (\d+) (\d+) (\S+): (.*)"), step_back_changed),
     ("counts", re.compile(r"counts of (\d+): (.*)"), counts_of),
     ("lists", re.compile(r"lists of (\d+): (.*)"), lists_of),
     ("count", re.compile(r"count (\d+) (\d+): (.*)"), count),

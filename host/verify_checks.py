@@ -23,7 +23,7 @@ import verify_cases
 from verifying import ROOT, Wrong, contents, ended, language, parsed, sure, verdict
 
 LIMIT = 300  # seconds for a check
-BUILT = ("host/libghanveltri.*", "host/packing_list", "bin/packing_list", "must-fail/*/*/.log")  # of target
+BUILT = ("staticlib/libghanveltri.a", "host/libghanveltri.*", "host/packing_list", "bin/packing_list", "must-fail/*/*/.log")  # of target
 RIGHT = ".right"  # after the name of a program, as it was built
 
 # What is held of the sources.
@@ -92,6 +92,17 @@ def drop(start, times=1):
     return written(change)
 
 
+def misspell(start):
+    """Another last sign of the first line that begins so."""
+
+    def change(text):
+        line = next((line for line in text.splitlines() if line.startswith(start)), "")
+        sure(line, f"no line begins with {start!r}")
+        return text.replace(f"{line}\n", f"{line[:-1]}{'1' if line[-1] == '0' else '0'}\n", 1)
+
+    return written(change)
+
+
 def becomes(text):
     return lambda path: path.write_text(text)
 
@@ -143,7 +154,7 @@ THEOREMS, CASES, BOUNDED = "crates/number/proofs/Theorems.antt", "crates/bounded
 TREE, TREES, LINES = "crates/tree/specs/Tree.antt", "crates/tree/proofs/Cases.antt", "crates/line/proofs/Cases.antt"
 EDIT = "accepted_has_a_place"
 SHAM, LOG = f"crates/refusal/must-fail/{EDIT}.edit", f"target/must-fail/refusal/{EDIT}/.log"
-HEADER, PAGE, ARCHIVE = "include/ghanveltri.h", "host/man/ghanveltri.3", "target/host/libghanveltri.a"
+HEADER, PAGE, ARCHIVE, README = "include/ghanveltri.h", "host/man/ghanveltri.3", "target/host/libghanveltri.a", "README.md"
 COMMAND, PROGRAM = "target/host/packing_list", "target/bin/packing_list"
 LOOK, LOOKUP, STREAM = "| `lookup` | `look` |", "crates/lookup/src/lib.rt", "crates/stream/src/lib.rt"
 GROUND, WALK, ORACLE, PACKING = "crates/cases_ground/stdout", "crates/cases_walk/stdout", "host/oracle.py", "host/packing.py"
@@ -154,13 +165,14 @@ OPTIMIZED = {"PYTHONOPTIMIZE": "1"}
 
 
 class Break(NamedTuple):
-    """What is broken, where and how; what the check then says; and variables of the environment that it gets."""
+    """What is broken, where and how; what the check then says; variables of the environment and words that it gets."""
 
     what: str
     path: str
     change: Callable
     says: tuple
     variables: dict = {}
+    words: tuple = ()
 
 
 def kinds_gone():
@@ -169,6 +181,19 @@ def kinds_gone():
         through = {kind: len(inputs) for kind, inputs in verify_cases.THROUGH[program].items()}
         for kind, lines in (stated | through).items():
             yield Break(f"no lines {kind!r}", f"crates/{program}/stdout", drop(f"{kind} ", lines), (program, repr(kind)))
+
+
+def lines_back_wrong():
+    """A wrong line of each kind that walks back."""
+    for kind in ("order_back", "round_back", "previous", "previous_changed", "run_back", "run_back_changed"):
+        yield Break(f"a wrong line {kind!r}", WALK, misspell(f"{kind} "), (f"{kind} ", "should say"), OPTIMIZED, (kind,))
+
+
+def turned(says, *names):
+    """A function of the archive that goes on and the one that goes back, exchanged."""
+    for name in names:
+        back = name.replace("next", "previous").replace("run", "run_back")
+        yield Break(f"{name} and {back} exchanged", ARCHIVE, exchange(f"gv_{name}", f"gv_{back}"), (says.format(name),))
 
 
 BREAKS = {
@@ -240,6 +265,7 @@ BREAKS = {
         Break("a wrong line", GROUND, swap("check 2 2 1001: refused 5 2", "check 2 2 1001: refused 5 1"), ("check 2 2 1001",), OPTIMIZED),
         Break("a line of no kind", GROUND, swap("count 2 3:", "cuont 2 3:"), ("'cuont'",)),
         Break("a stored output gone", WALK, gone, (WALK,)),
+        *lines_back_wrong(),
         *kinds_gone(),
     ],
     "table_as_generated": [
@@ -260,9 +286,12 @@ BREAKS = {
     ],
     "functions_agree": [
         Break("two functions exchanged", ARCHIVE, exchange("gv_count_place", "gv_count_refusal"), ("gv_count_refusal",)),
+        *turned("gv_{}(", "next", "next_changed", "run"),
+        *turned("gv_run_back_changed(", "run_changed"),
     ],
     "functions_programs_agree": [
         Break("two functions exchanged", ARCHIVE, exchange("gv_count_place", "gv_count_refusal"), ("count_refusal",)),
+        *turned("{} by ", "next", "run_changed"),
     ],
     "packing_list_agrees": [
         Break("a line lost", COMMAND, becomes(LESS), ("sample", "line 2")),
@@ -278,6 +307,7 @@ BREAKS = {
     ],
     "installed_example_runs": [
         Break("no command", COMMAND, gone, (COMMAND,)),
+        Break("another line shown", README, swap("\n    4 steps back: 11010,", "\n    4 steps back: 11100,"), ("README.md does not show",)),
     ],
     "checks_can_fail": [
         Break("an assert", ORACLE, swap("    sure(place == 0, ", "    assert (place == 0, "), (ORACLE, "an assert")),
@@ -329,11 +359,12 @@ def broken(copy, each):
         aside.rename(path)
 
 
-def run(copy, test, variables):
-    """The status and the output of a check. It gets these variables of the environment, and the path."""
+def run(copy, test, variables, words=()):
+    """The status and the output of a check. It gets these variables of the environment, and the path; and words for those of COMMANDS."""
     path = f"{copy}/gate/bin:{os.environ['PATH']}" if test == "the gate" else os.environ["PATH"]
     own = {"PATH": path, "PYTHONDONTWRITEBYTECODE": "1", **variables}
     command = COMMANDS.get(test, (f"host/tests/{test}",))
+    command = (command[0], *words) if words else command
     pipes = {"stdout": subprocess.PIPE, "stderr": subprocess.STDOUT}
     try:
         done = subprocess.run(command, cwd=copy, env=own, text=True, timeout=LIMIT, **pipes)
@@ -346,7 +377,7 @@ def see(copy, test, each):
     """Breaks one thing, and sees that the check fails and says what it should."""
     try:
         with broken(copy, each):
-            status, said = run(copy, test, each.variables)
+            status, said = run(copy, test, each.variables, each.words)
     except Wrong as wrong:
         raise Wrong(f"{test}: {each.what}: this break cannot be made in {each.path}: {wrong}") from wrong
     sure(status != 0, f"{test}: {each.what}: not seen; it passes although {each.path} is broken, and says\n{said}")

@@ -162,10 +162,10 @@ def largest_count():
     return math.comb(2 * t, t) - math.comb(2 * t, t + 1)
 
 
-def changes():
-    """The changed beats of all steps of small counts, by the rule of the manual."""
+def changes(steps):
+    """The changed beats of one step from all forms of small counts, on or back, by the rule of the manual."""
     some = [(t, s, oracle.form_of(t, s, n)) for t in range(6) for s in range(t + 1) for n in range(oracle.forms(t, s))]
-    *most, last = sorted({oracle.changed(form, oracle.successor(t, s, form)) for t, s, form in some})
+    *most, last = sorted({steps(t, s, form, 1)[2] for t, s, form in some})
     return f"{', '.join(map(str, most))} or {last}"
 
 
@@ -208,7 +208,8 @@ def held():
         f"lengths of {8 * int(in_code(r'sizeof.size_t. == (.)'))} bits": "the line below it, which would not compile",
         version_formula(): "the macro",
         f"answers how many, 1 to {largest_count()}": "the formula",
-        f"would change, {changes()}, and": "the rule",
+        f"gv_next would change, {changes(oracle.run)}, and": "the rule",
+        f"gv_previous would change, {changes(oracle.run_back)}, and": "the rule",
         f"Answers {LISTED} when all was listed": "faults_are_told",
         f"; {NOT_READ} when reading failed": "faults_are_told",
         f"; {NOT_WRITTEN} when writing failed": "faults_are_told",

@@ -186,12 +186,17 @@ def ask_beats(caller, t, s, beats):
     caller.lend("gv_number", number, t, s, beats)
     caller.lend("gv_next_changed", oracle.changed(beats, after), t, s, beats)
     caller.lend("gv_next", refusal, t, s, beats, left=after)
+    _, _, changed, before = oracle.run_back(t, s, beats, 1)
+    caller.lend("gv_previous_changed", changed, t, s, beats)
+    caller.lend("gv_previous", refusal, t, s, beats, left=before)
 
 
 def ask_run(caller, t, s, beats, steps):
-    refusal, _, changed, left = oracle.run(t, s, beats, steps)
-    caller.lend("gv_run_changed", changed, t, s, beats, steps)
-    caller.lend("gv_run", refusal, t, s, beats, steps, left=left)
+    """A run on and a run back."""
+    for name, run in (("gv_run", oracle.run), ("gv_run_back", oracle.run_back)):
+        refusal, _, changed, left = run(t, s, beats, steps)
+        caller.lend(f"{name}_changed", changed, t, s, beats, steps)
+        caller.lend(name, refusal, t, s, beats, steps, left=left)
 
 
 def ask_form(caller, t, s, number, beats):
@@ -200,7 +205,7 @@ def ask_form(caller, t, s, number, beats):
 
 
 def ask_circles(caller):
-    """Every form of small counts by its number, its number back, and the step to the next, round the circle."""
+    """Every form of small counts by its number, its number back, and the steps to the next and to the one before."""
     for t in range(6):
         for s in range(t + 1):
             ask_counts(caller, t, s)
@@ -217,7 +222,8 @@ def ask_largest(caller):
     ask_counts(caller, t, t)
     for n in (last // 2, last, last + 1, last | 1 << 63, TOP):
         ask_form(caller, t, t, n, [7] * (2 * t))
-    ask_beats(caller, t, t, oracle.form_of(t, t, last))
+    for n in (0, last):
+        ask_beats(caller, t, t, oracle.form_of(t, t, n))
 
 
 def ask_refused(caller):
@@ -308,7 +314,8 @@ def example_lines():
     shipped = oracle.form_of(t, s, n)
     after = oracle.successor(t, s, shipped)
     _, _, changed, on = oracle.run(t, s, after, 3)
-    shown = ["".join(map(str, beats)) for beats in (shipped, after, on)]
+    _, _, changed_back, back = oracle.run_back(t, s, on, 4)
+    shown = ["".join(map(str, beats)) for beats in (shipped, after, on, back)]
     return [
         f"Form requested: {t} tasks taken up, {s} set down, No. {n}",
         f"Form shipped: {shown[0]}",
@@ -316,6 +323,7 @@ def example_lines():
         f"Sheet {shown[0]}: No. {oracle.number_of(t, s, shipped)}",
         f"Next form: {shown[1]}, {oracle.changed(shipped, after)} beats changed",
         f"3 steps on: {shown[2]}, {changed} beats changed",
+        f"4 steps back: {shown[3]}, {changed_back} beats changed",
         f"Sheet 1001: refused {refusal} at beat {place}: {texts([refusal])[refusal]}",
     ]
 

@@ -13,8 +13,9 @@
  *   ends when its input does, and answers numbers of its own.
  * - It answers one number; gv_refusal_text alone answers a text. Of check, count and number each part has a
  *   function of its own: `_refusal` answers GV_ACCEPTED or the refusal, `_place` the beat at fault, or 0 where
- *   there is none, and gv_count and gv_number the value, 0 after a refusal. gv_form, gv_next and gv_run answer
- *   GV_ACCEPTED or the refusal, and `_changed` the beats that a step or a run would change, 0 after a refusal.
+ *   there is none, and gv_count and gv_number the value, 0 after a refusal. gv_form, gv_next, gv_previous,
+ *   gv_run and gv_run_back answer GV_ACCEPTED or the refusal, and `_changed` the beats that a step or a run
+ *   would change, 0 after a refusal.
  * - A slice is a pointer and, right after it, its length in bytes. Nothing outside the slice is read or
  *   written, and a slice that is lent as const is only read.
  * - The caller owes a pointer that is valid for the length, and is not NULL even if the length is 0; slices
@@ -37,7 +38,7 @@ extern "C" {
 
 /* The version of this header. A new major version may ask callers to change. */
 #define GV_VERSION_MAJOR 1
-#define GV_VERSION_MINOR 1
+#define GV_VERSION_MINOR 2
 #define GV_VERSION_PATCH 0
 #define GV_VERSION (GV_VERSION_MAJOR * 1000000 + GV_VERSION_MINOR * 1000 + GV_VERSION_PATCH)
 
@@ -139,6 +140,17 @@ uint64_t gv_next(uint64_t t, uint64_t s, uint8_t *beats, size_t length);
 uint64_t gv_next_changed(uint64_t t, uint64_t s, const uint8_t *beats, size_t length);
 
 /*
+ * Takes a form one step back: to the one form of t, s whose next form it is.
+ * gv_previous answers what gv_check_refusal answers; the place of a refusal is gv_check_place's.
+ * gv_previous_changed answers how many beats gv_previous would change, 0, 2 or 4, and 0 after a refusal. It
+ * writes nothing.
+ * In: t, s, beats. Out, gv_previous alone: beats hold the previous form; after a refusal, what they held.
+ * [V1] [V2] [V9] [V12]
+ */
+uint64_t gv_previous(uint64_t t, uint64_t s, uint8_t *beats, size_t length);
+uint64_t gv_previous_changed(uint64_t t, uint64_t s, const uint8_t *beats, size_t length);
+
+/*
  * Takes a form many steps on, round the circle again where there are more steps than forms.
  * gv_run answers what gv_check_refusal answers, and then GV_RUN_TOO_LONG; the place of a refusal is
  * gv_check_place's.
@@ -149,6 +161,19 @@ uint64_t gv_next_changed(uint64_t t, uint64_t s, const uint8_t *beats, size_t le
  */
 uint64_t gv_run(uint64_t t, uint64_t s, uint8_t *beats, size_t length, uint64_t steps);
 uint64_t gv_run_changed(uint64_t t, uint64_t s, const uint8_t *beats, size_t length, uint64_t steps);
+
+/*
+ * Takes a form many steps back, round the circle again where there are more steps than forms. After gv_run of
+ * as many steps it brings back what was lent, and changes as many beats.
+ * gv_run_back answers what gv_check_refusal answers, and then GV_RUN_TOO_LONG; the place of a refusal is
+ * gv_check_place's.
+ * gv_run_back_changed answers how many beats gv_run_back would change, added up over its steps, and 0 after a
+ * refusal. It writes nothing.
+ * In: t, s, beats, steps. Out, gv_run_back alone: beats hold the form that many steps back; after a refusal,
+ * what they held. [R6] [V8] [V10] [V12]
+ */
+uint64_t gv_run_back(uint64_t t, uint64_t s, uint8_t *beats, size_t length, uint64_t steps);
+uint64_t gv_run_back_changed(uint64_t t, uint64_t s, const uint8_t *beats, size_t length, uint64_t steps);
 
 /*
  * Lists the order records of one open descriptor to another, a line for each, as the command packing_list

@@ -18,10 +18,13 @@ use Rattle.schedule.proofs.Hand.{plays, plays-schedule}
 use Rattle.circle.specs.declared.Move.{Move}
 use Rattle.circle.specs.Step.{shift, is01, found, has01, movesNext, next, top}
 use Rattle.circle.specs.Walk.{steps, changed, worked, isDip, dips, OneWay}
+use Rattle.circle.specs.Back.{unshift, others, afterFound, beforeFound, fits, previous}
+use Rattle.circle.specs.Back.{Precedes, stepsBack, workedBack}
 use Rattle.circle.specs.Plan.{Form, applied, changes, Inside, Plans}
 use Rattle.circle.specs.Answers.{runRows, nextAnswer, nextLeft, runAnswer, runLeft}
 use Rattle.circle.proofs.Circle.{steps-schedule}
 use Rattle.circle.proofs.Theorems.{circle}
+use Rattle.circle.proofs.Backwards.{previous-precedes}
 
 -- the third and the fourth prefix shift of 11010: the symbol goes to position 2 [S1]
 shift-3 : shift 3 (1 ∷ 1 ∷ 0 ∷ 1 ∷ 0 ∷ []) ≡ 1 ∷ 0 ∷ 1 ∷ 1 ∷ 0 ∷ []
@@ -255,3 +258,116 @@ run-leaves-11010 = refl
 run-leaves-1 : runLeft 1 0 (1 ∷ []) 65536 ≡ 1 ∷ []
 unfolding firstFrom ones zeros
 run-leaves-1 = refl
+
+-- the fourth prefix shift of 11010 undone, and the symbol left where it is
+unshift-4 : unshift 4 (1 ∷ 1 ∷ 1 ∷ 0 ∷ 0 ∷ []) ≡ 1 ∷ 1 ∷ 0 ∷ 1 ∷ 0 ∷ []
+unfolding unshift
+unshift-4 = refl
+
+unshift-2 : unshift 2 (1 ∷ 0 ∷ 1 ∷ []) ≡ 1 ∷ 0 ∷ 1 ∷ []
+unfolding unshift
+unshift-2 = refl
+
+-- without its second symbol 10101 is 1101, whose found 1 is at 4; 11100 is 1100, which has none
+others-1101 : others (1 ∷ 0 ∷ 1 ∷ 0 ∷ 1 ∷ []) ≡ 1 ∷ 1 ∷ 0 ∷ 1 ∷ []
+others-1101 = refl
+
+others-1100 : others (1 ∷ 1 ∷ 1 ∷ 0 ∷ 0 ∷ []) ≡ 1 ∷ 1 ∷ 0 ∷ 0 ∷ []
+others-1100 = refl
+
+after-5 : afterFound (1 ∷ 0 ∷ 1 ∷ 0 ∷ 1 ∷ []) ≡ 5
+unfolding afterFound found has01 firstFrom
+after-5 = refl
+
+after-last : afterFound (1 ∷ 0 ∷ 1 ∷ []) ≡ 3
+unfolding afterFound found has01 firstFrom
+after-last = refl
+
+before-4 : beforeFound (1 ∷ 1 ∷ 0 ∷ 0 ∷ 1 ∷ []) ≡ 4
+unfolding beforeFound found has01 firstFrom
+before-4 = refl
+
+before-last : beforeFound (1 ∷ 1 ∷ 1 ∷ 0 ∷ 0 ∷ []) ≡ 5
+unfolding beforeFound found has01 firstFrom
+before-last = refl
+
+-- 11100 may come of 11001, but 1100 not of 1001
+fits-11001 : fits (1 ∷ 1 ∷ 1 ∷ 0 ∷ 0 ∷ []) ≡ true
+unfolding unshift beforeFound fits found has01 firstFrom every ones zeros isSchedule
+fits-11001 = refl
+
+not-fits-1001 : fits (1 ∷ 1 ∷ 0 ∷ 0 ∷ []) ≡ false
+unfolding unshift beforeFound fits found has01 firstFrom every ones zeros isSchedule
+not-fits-1001 = refl
+
+-- each rule of the step back: a 0 goes back to the end, or after the found 1; a 1 to the end, before the found 1, or to
+-- one position earlier; and the three that come before themselves
+previous-10110 : previous (1 ∷ 0 ∷ 1 ∷ 1 ∷ 0 ∷ []) ≡ 1 ∷ 1 ∷ 1 ∷ 0 ∷ 0 ∷ []
+unfolding previous unshift afterFound beforeFound fits found has01 firstFrom every ones zeros isSchedule
+previous-10110 = refl
+
+previous-10101 : previous (1 ∷ 0 ∷ 1 ∷ 0 ∷ 1 ∷ []) ≡ 1 ∷ 1 ∷ 0 ∷ 1 ∷ 0 ∷ []
+unfolding previous unshift afterFound beforeFound fits found has01 firstFrom every ones zeros isSchedule
+previous-10101 = refl
+
+previous-11100 : previous (1 ∷ 1 ∷ 1 ∷ 0 ∷ 0 ∷ []) ≡ 1 ∷ 1 ∷ 0 ∷ 0 ∷ 1 ∷ []
+unfolding previous unshift afterFound beforeFound fits found has01 firstFrom every ones zeros isSchedule
+previous-11100 = refl
+
+previous-11010 : previous (1 ∷ 1 ∷ 0 ∷ 1 ∷ 0 ∷ []) ≡ 1 ∷ 0 ∷ 1 ∷ 1 ∷ 0 ∷ []
+unfolding previous unshift afterFound beforeFound fits found has01 firstFrom every ones zeros isSchedule
+previous-11010 = refl
+
+previous-11001 : previous (1 ∷ 1 ∷ 0 ∷ 0 ∷ 1 ∷ []) ≡ 1 ∷ 0 ∷ 1 ∷ 0 ∷ 1 ∷ []
+unfolding previous unshift afterFound beforeFound fits found has01 firstFrom every ones zeros isSchedule
+previous-11001 = refl
+
+previous-1100 : previous (1 ∷ 1 ∷ 0 ∷ 0 ∷ []) ≡ 1 ∷ 0 ∷ 1 ∷ 0 ∷ []
+unfolding previous unshift afterFound beforeFound fits found has01 firstFrom every ones zeros isSchedule
+previous-1100 = refl
+
+previous-10 : previous (1 ∷ 0 ∷ []) ≡ 1 ∷ 0 ∷ []
+unfolding previous unshift afterFound beforeFound fits found has01 firstFrom every ones zeros isSchedule
+previous-10 = refl
+
+previous-1111 : previous (1 ∷ 1 ∷ 1 ∷ 1 ∷ []) ≡ 1 ∷ 1 ∷ 1 ∷ 1 ∷ []
+unfolding previous zeros
+previous-1111 = refl
+
+previous-empty : previous [] ≡ []
+unfolding previous zeros
+previous-empty = refl
+
+-- 101 comes before 110; 111 is no schedule of (2,1), and 110 leads to 101
+precedes-110 : Precedes 2 1 (1 ∷ 0 ∷ 1 ∷ []) (1 ∷ 1 ∷ 0 ∷ [])
+unfolding previous unshift afterFound beforeFound fits found has01 firstFrom every ones zeros isSchedule
+precedes-110 = previous-precedes schedule-110
+
+not-precedes-111 : Precedes 2 1 (1 ∷ 1 ∷ 1 ∷ []) (1 ∷ 1 ∷ 0 ∷ []) → ⊥
+unfolding ones
+not-precedes-111 p = omega (arith, p .form .taken)
+
+not-precedes-itself : Precedes 2 1 (1 ∷ 1 ∷ 0 ∷ []) (1 ∷ 1 ∷ 0 ∷ []) → ⊥
+unfolding shift found has01 movesNext next firstFrom every ones zeros isSchedule
+not-precedes-itself p = let clash : _≡_ {A = ℕ} 0 1 = ap (λ (l : List ℕ). getD l 1 0) (p .leads) in omega arith
+
+-- three steps back from 11100, to 11001, 10101 and 11010; the steps back from 10110 and 10101 change two and four beats
+no-steps-back : stepsBack 0 (1 ∷ 1 ∷ 1 ∷ 0 ∷ 0 ∷ []) ≡ 1 ∷ 1 ∷ 1 ∷ 0 ∷ 0 ∷ []
+unfolding stepsBack
+no-steps-back = refl
+
+three-steps-back : stepsBack 3 (1 ∷ 1 ∷ 1 ∷ 0 ∷ 0 ∷ []) ≡ 1 ∷ 1 ∷ 0 ∷ 1 ∷ 0 ∷ []
+unfolding previous unshift afterFound beforeFound fits found has01 firstFrom every ones zeros isSchedule stepsBack
+three-steps-back = refl
+
+two-worked-back : workedBack 1 (1 ∷ 0 ∷ 1 ∷ 1 ∷ 0 ∷ []) ≡ 2
+unfolding previous unshift afterFound found has01 firstFrom zeros stepsBack changed workedBack
+two-worked-back = refl
+
+four-worked-back : workedBack 1 (1 ∷ 0 ∷ 1 ∷ 0 ∷ 1 ∷ []) ≡ 4
+unfolding previous unshift afterFound found has01 firstFrom zeros stepsBack changed workedBack
+four-worked-back = refl
+
+none-worked-back : workedBack 0 (1 ∷ 0 ∷ 1 ∷ 0 ∷ 1 ∷ []) ≡ 0
+unfolding workedBack
+none-worked-back = refl

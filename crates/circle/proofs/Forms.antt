@@ -4,7 +4,7 @@
 --     refused-so, accepted-so     what a call answers and leaves, by the verdict
 --     run-refused, run-long, run-taken     the verdict on a run
 --     run-allowed       what an accepted run says of the schedule and the steps
---     Goes, goes-on     a walk goes step by step, from form to form, and a step changes four beats at most
+--     Goes, goes-on, goes-back     a walk goes step by step, from form to form, and a step changes four beats at most
 --     Walked, walked-start, walked-turn     after some steps of such a walk: the form reached, the beats changed so far
 -- Assumes nothing.
 use mathlib.Core.List.{List, [], _∷_, List·Memᴰ·head}
@@ -29,6 +29,7 @@ use Rattle.schedule.proofs.Hand.{schedule-plays, plays-schedule}
 use Rattle.schedule.proofs.Theorems.{accepted-schedule}
 use Rattle.circle.specs.Step.{next}
 use Rattle.circle.specs.Walk.{steps, changed, worked}
+use Rattle.circle.specs.Back.{previous, stepsBack, workedBack}
 use Rattle.circle.specs.Plan.{Form}
 use Rattle.circle.specs.Answers.{mostSteps, runRows}
 use Rattle.circle.proofs.Circle.{next-schedule}
@@ -44,6 +45,7 @@ use Rattle.circle.proofs.Work.{
   swap-two,
   dip-four,
 }
+use Rattle.circle.proofs.Backwards.{previous-form, previous-changes}
 
 -- what a call answers and leaves, by the verdict on its input
 pub refused-so : {v : Verdict} {why : Refusal} → v ≡ Verdict.Refused why → (n : ℕ) (done lent : List ℕ)
@@ -105,6 +107,17 @@ goes-on =
     record {
       keeps = step-form;
       four = changed-four;
+      starts = λ b. (refl, refl);
+      goes = λ k b. refl;
+      adds = λ k b. refl;
+    }
+
+pub goes-back : Goes previous stepsBack workedBack
+unfolding stepsBack workedBack
+goes-back =
+    record {
+      keeps = λ f. own-counts (previous-form f);
+      four = λ f. omega (arith, previous-changes f, changed-four (own-counts (previous-form f)));
       starts = λ b. (refl, refl);
       goes = λ k b. refl;
       adds = λ k b. refl;

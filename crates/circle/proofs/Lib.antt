@@ -6,7 +6,9 @@ pub mod Circle
 pub mod Work
 pub mod Dips
 pub mod Round
+pub mod Undone
 pub mod Stores
 pub mod Forms
 pub mod Theorems
+pub mod Backwards
 pub mod Cases

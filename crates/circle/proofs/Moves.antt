@@ -92,7 +92,7 @@ module _ (p q : ℕ) where
           let i : ℕ = suc j - p in
           omega (arith, o, get-ups p i (suc j) (downs (suc q) c) (omega arith), get-down (suc q) i c (omega arith))
 
-  found-some : (z : List ℕ) → found (ups p (downs (suc q) (1 ∷ z))) ≡ suc (suc (p + q))
+  pub found-some : (z : List ℕ) → found (ups p (downs (suc q) (1 ∷ z))) ≡ suc (suc (p + q))
   unfolding found
   found-some z =
       let b = ups p (downs (suc q) (1 ∷ z)) in
@@ -155,7 +155,7 @@ same-test true y f g = sym (f refl)
 same-test false true f g = absurd (false≢true (g refl))
 same-test false false f g = refl
 
-isSchedule-plays : (t s : ℕ) (c : List ℕ) → ones c ≡ t → zeros c ≡ s → isSchedule t s c ≡ plays 0 c
+pub isSchedule-plays : (t s : ℕ) (c : List ℕ) → ones c ≡ t → zeros c ≡ s → isSchedule t s c ≡ plays 0 c
 isSchedule-plays t s c o z =
     same-test (isSchedule t s c) (plays 0 c) (λ e. schedule-plays (true-isSchedule t s c e))
     (λ e. isSchedule-true t s c (plays-schedule e o z))

@@ -1,5 +1,6 @@
 -- The step by stores: y is the leftmost 0, x the 1 of the leftmost 0 followed by 1.
 --     Found, find, found-order  what the two scans of the step find, by the shape
+--     set-ups, set-downs        a store behind ones, or behind zeros
 --     plan-stays, plan-alone, plan-turns, plan-swaps, plan-dips     each plan of the code is the rule's next form
 -- Assumes nothing.
 use mathlib.Core.Bool.{Bool, true, false, false≢true, cond}
@@ -92,12 +93,12 @@ found-order (flat p q e ey ex) = (omega arith, omega (arith, ap length e, shape-
 found-order (rising p q z e ey ex) = (omega arith, omega (arith, ap length e, shape-length (suc p) (suc q) (1 ∷ z)))
 
 -- stores, by the shape
-set-ups : (p i k : ℕ) (c : List ℕ) (v : ℕ) → k ≡ p + i → set (ups p c) k v ≡ ups p (set c i v)
+pub set-ups : (p i k : ℕ) (c : List ℕ) (v : ℕ) → k ≡ p + i → set (ups p c) k v ≡ ups p (set c i v)
 set-ups zero i k c v e = ap (λ (j : ℕ). set c j v) (omega arith)
 set-ups (suc p) i zero c v e = absurd (omega arith)
 set-ups (suc p) i (suc k) c v e = ap (λ (l : List ℕ). 1 ∷ l) (set-ups p i k c v (omega arith))
 
-set-downs : (q i k : ℕ) (c : List ℕ) (v : ℕ) → k ≡ q + i → set (downs q c) k v ≡ downs q (set c i v)
+pub set-downs : (q i k : ℕ) (c : List ℕ) (v : ℕ) → k ≡ q + i → set (downs q c) k v ≡ downs q (set c i v)
 set-downs zero i k c v e = ap (λ (j : ℕ). set c j v) (omega arith)
 set-downs (suc q) i zero c v e = absurd (omega arith)
 set-downs (suc q) i (suc k) c v e = ap (λ (l : List ℕ). 0 ∷ l) (set-downs q i k c v (omega arith))

@@ -1,6 +1,7 @@
 -- The changed beats of one step, by the shape of the schedule.
 --     changed-self, changed-same    a list differs from itself nowhere, and lists of one length that
 --                                   differ nowhere are equal
+--     changed-sym                   it is the same both ways
 --     changed-le                    there are no more changed beats than beats
 --     Work b c                      how many beats a step from b to c changes, and what says so
 --     next-work                     the work of the next form
@@ -11,7 +12,8 @@ use mathlib.Core.Logic.{_⊎_, inl, inr}
 use mathlib.Core.Path.{_≡_, refl, _∙_, ap, sym}
 use Prim.Native.Nat.{ℕ, zero, suc, _+_, _≤_}
 use native.Mathlib.Omega.{arith}
-use borrow.Author.Tests.{eq-eqb, eqb-true}
+use native.Mathlib.Decide.{ℕ-discrete}
+use borrow.Author.Tests.{eq-eqb, ne-eqb, eqb-true}
 use lib.Dec.{eqb}
 use lib.ListN.{length}
 use Rattle.schedule.specs.Schedule.{ones, zeros}
@@ -36,6 +38,19 @@ changed-same (x ∷ b) (y ∷ c) n e = by (eqb x y) refl e (changed-same b c (om
     by : (t : Bool) → eqb x y ≡ t → cond t 0 1 + changed b c ≡ 0 → (changed b c ≡ 0 → b ≡ c) → x ∷ b ≡ y ∷ c
     by true q d tail = let same = eqb-true x y q in let rest = tail (omega arith) in cc
     by false q d tail = absurd (omega arith)
+
+pub changed-sym : (b c : List ℕ) → changed b c ≡ changed c b
+unfolding changed
+changed-sym [] [] = refl
+changed-sym [] (y ∷ c) = refl
+changed-sym (x ∷ b) [] = refl
+changed-sym (x ∷ b) (y ∷ c) = omega (arith, beat-sym, changed-sym b c)
+  where
+    beat-sym : cond {A = ℕ} (eqb x y) 0 1 ≡ cond (eqb y x) 0 1
+    beat-sym = elim (ℕ-discrete x y) [
+      | yes e ↦ rw e
+      | no n ↦ simp (ne-eqb x y n, ne-eqb y x (λ e. n (sym e)))
+    ]
 
 changed-le : (b c : List ℕ) → changed b c ≤ length b
 unfolding changed

@@ -1,7 +1,8 @@
 // The step and the run along the circle: the manual, "The step". Both work in the lent schedule, and what
 // each would change comes from a call that writes nothing. The contracts of the public functions cite
 // specs/Answers, which says what they answer and leave by specs/Step and specs/Walk; those of the private
-// ones cite specs/Plan, and that of may_run specs/Answers.
+// ones, and of changes, cite specs/Plan. Move, changes and may_run serve the steps back too, which are the
+// crate circle_back's.
 ghost use mathlib.Core.Path.{_≡_};
 ghost use Prim.Native.Nat.{_≤_};
 ghost use lib.ListN.{length};
@@ -21,7 +22,7 @@ pub const LONGEST_RUN: u64 = 65535;
 
 // What a step does to a schedule: nothing; a 1 stored at the leftmost 0 and a 0 at another place; or
 // these, and the 0 after the found 1 moved to the second place.
-enum Move {
+pub enum Move {
     Stays,
     Swaps(usize, usize),
     Dips(usize, usize),
@@ -74,8 +75,8 @@ fn make(beats: &mut [u8], planned: Move)
     }
 }
 
-// How many beats a move changes.
-fn changes(planned: Move) -> u64
+// How many beats a move changes, made or undone.
+pub fn changes(planned: Move) -> u64
     ensures { λ r. ⌜ r ≡ Plan·changes planned ⌝ }
 {
     match planned {
@@ -118,8 +119,8 @@ fn walk_copy(beats: &[u8], room: &mut [u8], k: u64) -> u64
     walk(room, k)
 }
 
-// Whether the beats may be taken k steps on. Refuses 1 to 6 as the check does, then 13.
-fn may_run(t: u64, s: u64, beats: &[u8], k: u64) -> Verdict
+// Whether the beats may be taken k steps, on or back. Refuses 1 to 6 as the check does, then 13.
+pub fn may_run(t: u64, s: u64, beats: &[u8], k: u64) -> Verdict
     ensures { λ r. ⌜ r ≡ judge (runRows t s (now (beats .entry)) k) ⌝ }
 {
     let verdict = schedule::check(t, s, beats);

@@ -50,6 +50,10 @@ use Rattle.demands.specs.Calls.{
   of-changed,
   of-run,
   of-run-changed,
+  of-previous,
+  of-previous-changed,
+  of-run-back,
+  of-run-back-changed,
   of-number,
   of-form,
   of-form-on-sheet,
@@ -65,6 +69,10 @@ use Rattle.demands.specs.Calls.{
   in-changed,
   in-run,
   in-run-changed,
+  in-previous,
+  in-previous-changed,
+  in-run-back,
+  in-run-back-changed,
   in-number,
   in-tree,
   in-write,
@@ -143,6 +151,12 @@ accepted-counts m x (of-changed {t} {s} {b}) g = accepted-schedule t s b (taken 
 accepted-counts m x (of-run {t} {s} {b} {k}) g = accepted-schedule t s b (run-checked t s b k (taken _ _ (g .0 .0))) .0
 accepted-counts m x (of-run-changed {t} {s} {b} {k}) g =
     accepted-schedule t s b (run-checked t s b k (taken _ _ (g .0 .0))) .0
+accepted-counts m x (of-previous {t} {s} {b}) g = accepted-schedule t s b (taken _ _ (g .0 .0)) .0
+accepted-counts m x (of-previous-changed {t} {s} {b}) g = accepted-schedule t s b (taken _ _ (g .0 .0)) .0
+accepted-counts m x (of-run-back {t} {s} {b} {k}) g =
+    accepted-schedule t s b (run-checked t s b k (taken _ _ (g .0 .0))) .0
+accepted-counts m x (of-run-back-changed {t} {s} {b} {k}) g =
+    accepted-schedule t s b (run-checked t s b k (taken _ _ (g .0 .0))) .0
 accepted-counts m x (of-number {t} {s} {b}) g = accepted-schedule t s b (taken _ _ (g .0 .0)) .0
 accepted-counts m x (of-form {t} {s} {n} {out}) g = form-counts t s n (form-allowed t s n out (sym (g .0 .0)) .0)
 accepted-counts m x (of-form-on-sheet {t} {s} {n} {sheet} {column}) g =
@@ -163,6 +177,13 @@ accepted-beats m x (of-run {t} {s} {b} {k}) in-run g =
     accepted-schedule t s b (run-checked t s b k (taken _ _ (g .0 .0))) .1
 accepted-beats m x (of-run-changed {t} {s} {b} {k}) in-run-changed g =
     accepted-schedule t s b (run-checked t s b k (taken _ _ (g .0 .0))) .1
+accepted-beats m x (of-previous {t} {s} {b}) in-previous g = accepted-schedule t s b (taken _ _ (g .0 .0)) .1
+accepted-beats m x (of-previous-changed {t} {s} {b}) in-previous-changed g =
+    accepted-schedule t s b (taken _ _ (g .0 .0)) .1
+accepted-beats m x (of-run-back {t} {s} {b} {k}) in-run-back g =
+    accepted-schedule t s b (run-checked t s b k (taken _ _ (g .0 .0))) .1
+accepted-beats m x (of-run-back-changed {t} {s} {b} {k}) in-run-back-changed g =
+    accepted-schedule t s b (run-checked t s b k (taken _ _ (g .0 .0))) .1
 accepted-beats m x (of-number {t} {s} {b}) in-number g = accepted-schedule t s b (taken _ _ (g .0 .0)) .1
 accepted-beats m x of-tree in-tree g = tree-sized _ refl (g .3) .1
 accepted-beats m x (of-write {kind} {t} {s} {b} {out}) in-write g =
@@ -175,6 +196,10 @@ asked-counts in-next = (_, _, of-next)
 asked-counts in-changed = (_, _, of-changed)
 asked-counts in-run = (_, _, of-run)
 asked-counts in-run-changed = (_, _, of-run-changed)
+asked-counts in-previous = (_, _, of-previous)
+asked-counts in-previous-changed = (_, _, of-previous-changed)
+asked-counts in-run-back = (_, _, of-run-back)
+asked-counts in-run-back-changed = (_, _, of-run-back-changed)
 asked-counts in-number = (_, _, of-number)
 asked-counts in-tree = (_, _, of-tree)
 asked-counts in-write = (_, _, of-write)

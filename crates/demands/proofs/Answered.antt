@@ -18,6 +18,10 @@ use Rattle.demands.specs.Calls.{
   changed,
   run,
   run-changed,
+  previous,
+  previous-changed,
+  run-back,
+  run-back-changed,
   number,
   form,
   form-on-sheet,
@@ -35,6 +39,10 @@ call-answered (next t s b) silent = silent _ _ _ ((refl, refl), refl)
 call-answered (changed t s b) silent = silent _ _ _ ((refl, refl), refl)
 call-answered (run t s b k) silent = silent _ _ _ ((refl, refl), refl)
 call-answered (run-changed t s b k) silent = silent _ _ _ ((refl, refl), refl)
+call-answered (previous t s b) silent = silent _ _ _ ((refl, refl), refl)
+call-answered (previous-changed t s b) silent = silent _ _ _ ((refl, refl), refl)
+call-answered (run-back t s b k) silent = silent _ _ _ ((refl, refl), refl)
+call-answered (run-back-changed t s b k) silent = silent _ _ _ ((refl, refl), refl)
 call-answered (number t s b) silent = silent _ _ _ ((refl, refl), refl)
 call-answered (form t s n out) silent = silent _ _ _ ((refl, refl), refl)
 call-answered (form-on-sheet t s n sheet column) silent = silent _ _ _ ((refl, refl), refl)

@@ -19,6 +19,8 @@ use Rattle.schedule.specs.Check.{checked}
 use Rattle.circle.specs.Answers.{runRows, nextAnswer, runAnswer}
 use Rattle.circle.specs.Step as rule
 use Rattle.circle.specs.Walk as walk
+use Rattle.circle.specs.Back as back
+use Rattle.circle_back.specs.Answers.{previousAnswer, runBackAnswer}
 use Rattle.number.specs.Answers.{numberAnswer}
 use Rattle.tree.specs.Table.{Treed, filled, kept}
 use Rattle.tree.proofs.Theorems.{treed-one}
@@ -37,6 +39,10 @@ use Rattle.demands.specs.Calls.{
   changed,
   run,
   run-changed,
+  previous,
+  previous-changed,
+  run-back,
+  run-back-changed,
   number,
   form,
   form-on-sheet,
@@ -81,6 +87,12 @@ call-unchanged (changed t s b) why m x g = g .1
 call-unchanged (run t s b k) why m x g =
     stayed (judge (runRows t s b k)) (walk.worked k b) (walk.steps k b) b (g .0 .0) (g .1)
 call-unchanged (run-changed t s b k) why m x g = g .1
+call-unchanged (previous t s b) why m x g =
+    stayed (checked t s b) (walk.changed b (back.previous b)) (back.previous b) b (g .0 .0) (g .1)
+call-unchanged (previous-changed t s b) why m x g = g .1
+call-unchanged (run-back t s b k) why m x g =
+    stayed (judge (runRows t s b k)) (back.workedBack k b) (back.stepsBack k b) b (g .0 .0) (g .1)
+call-unchanged (run-back-changed t s b k) why m x g = g .1
 call-unchanged (number t s b) why m x g = g .1
 call-unchanged (form t s n out) why m x g = g .1 ∙ ap (λ (l : List ℕ). l ∷ []) (still _ (g .0 .0) _ out)
 call-unchanged (form-on-sheet t s n sheet column) why m x g =
@@ -120,6 +132,10 @@ call-silent (next t s b) why m x g i = no-value (nextAnswer t s b) why m (g .0) 
 call-silent (changed t s b) why m x g i = no-value (nextAnswer t s b) why m (g .0) i
 call-silent (run t s b k) why m x g i = no-value (runAnswer t s b k) why m (g .0) i
 call-silent (run-changed t s b k) why m x g i = no-value (runAnswer t s b k) why m (g .0) i
+call-silent (previous t s b) why m x g i = no-value (previousAnswer t s b) why m (g .0) i
+call-silent (previous-changed t s b) why m x g i = no-value (previousAnswer t s b) why m (g .0) i
+call-silent (run-back t s b k) why m x g i = no-value (runBackAnswer t s b k) why m (g .0) i
+call-silent (run-back-changed t s b k) why m x g i = no-value (runBackAnswer t s b k) why m (g .0) i
 call-silent (number t s b) why m x g i = no-value (numberAnswer t s b) why m (g .0) i
 call-silent (form t s n out) why m x g i = no-numbers m (g .0 .1) i
 call-silent (form-on-sheet t s n sheet column) why m x g i = no-numbers m (g .0 .1) i
@@ -152,6 +168,10 @@ call-one (next t s b) v w m k x y g h = same g h
 call-one (changed t s b) v w m k x y g h = same g h
 call-one (run t s b n) v w m k x y g h = same g h
 call-one (run-changed t s b n) v w m k x y g h = same g h
+call-one (previous t s b) v w m k x y g h = same g h
+call-one (previous-changed t s b) v w m k x y g h = same g h
+call-one (run-back t s b n) v w m k x y g h = same g h
+call-one (run-back-changed t s b n) v w m k x y g h = same g h
 call-one (number t s b) v w m k x y g h = same g h
 call-one (form t s n out) v w m k x y g h = same g h
 call-one (form-on-sheet t s n sheet column) v w m k x y g h = same g h

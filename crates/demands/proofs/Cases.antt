@@ -33,6 +33,7 @@ use Rattle.demands.specs.Calls.{
   of-check,
   of-next,
   of-run,
+  of-run-back,
   BeatsOf,
   in-check,
   Owed,
@@ -51,6 +52,8 @@ use Rattle.demands.specs.Demands.{
 }
 use Rattle.demands.proofs.Accepted.{accepted-counts, accepted-beats, accepted-owed, call-refused}
 use Rattle.demands.proofs.Demands.{demands}
+use Rattle.demands.specs.Backwards.{Backwards}
+use Rattle.demands.proofs.Backwards.{backwards}
 use Rattle.demands.specs.Examples.{
   InOrder,
   Changing,
@@ -217,3 +220,14 @@ unfolding every firstFrom ones zeros isSchedule shift found has01 movesNext next
 demand-3-1 p =
     ⊎-elim (λ two. omega (arith, two)) (λ four. omega (arith, four))
     (p .step-changes (top 1 1) (top-schedule 1 1 (omega arith)))
+
+-- the press runs backwards over (3,2), and not over 200 tasks
+backwards-3 : Backwards 3 2
+backwards-3 = backwards 3 2 (omega arith, omega arith)
+
+backwards-200 : Backwards 200 0 → ⊥
+backwards-200 p = omega (
+  arith,
+  accepted-counts {t = 200} {s = 0} _ _ (of-run-back {k = 0})
+      (p .run-back-given (top 200 0) 0 (top-schedule 200 0 (omega arith)) (omega arith)) .0,
+)

@@ -1,4 +1,5 @@
 -- The demands of the letter hold: each part of specs/Demands.antt by the law that it cites.
+--     accepts, leaves, single     what an accepted call answers, and the one list that it leaves
 --     demands     all of them [D1f] [D2h] [D3h]
 -- Assumes nothing.
 use mathlib.Core.List.{List, [], _∷_, List·Memᴰ·head}
@@ -53,13 +54,13 @@ demand-1 = record {
 }
 
 -- what an accepted call answers, and what it leaves
-accepts : (v : Verdict) → v ≡ Verdict.Accepted → (n : ℕ) → Answer.Value n ≡ answer v n
+pub accepts : (v : Verdict) → v ≡ Verdict.Accepted → (n : ℕ) → Answer.Value n ≡ answer v n
 accepts v e n = ap (λ (x : Verdict). answer x n) (sym e)
 
-leaves : (v : Verdict) → v ≡ Verdict.Accepted → (done lent : List ℕ) → done ∷ [] ≡ left v done lent ∷ []
+pub leaves : (v : Verdict) → v ≡ Verdict.Accepted → (done lent : List ℕ) → done ∷ [] ≡ left v done lent ∷ []
 leaves v e done lent = ap (λ (x : Verdict). left x done lent ∷ []) (sym e)
 
-single : {x y : List ℕ} → _≡_ {A = List (List ℕ)} (x ∷ []) (y ∷ []) → x ≡ y
+pub single : {x y : List ℕ} → _≡_ {A = List (List ℕ)} (x ∷ []) (y ∷ []) → x ≡ y
 single e = ap (λ (l : List (List ℕ)). getD l 0 []) e
 
 module _ (t s : ℕ) (a : Allowed t s) where

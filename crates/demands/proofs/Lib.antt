@@ -3,6 +3,8 @@ pub mod Calls
 pub mod Accepted
 pub mod Answered
 pub mod Demands
+pub mod Backwards
 pub mod Cases
 pub mod Shams
+pub mod ShamsBack
 pub mod Handed

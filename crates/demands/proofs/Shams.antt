@@ -1,7 +1,9 @@
 -- The manual's five shams ("Proving what was asked"), each at an input where what it answers or leaves is not what the
 -- contract gives, in the words of `Gives` and by computing it. A refused edit of docs/SHAMS.md shows that the written
 -- proof does not fit the wrong code; a theorem here, that no proof can: what meets the contract does not answer so.
--- What is not the sham's own is left open: any verdict, any numbers, any content of what was lent.
+-- What is not the sham's own is left open: any verdict, any numbers, any content of what was lent. Those of the calls
+-- back are in ShamsBack.antt.
+--     never     a refusal is not an acceptance
 --     Refuses everything [P3]: no refusal fits a call that has to be accepted.
 --     count-refusing, check-refusing, next-refusing, changed-refusing, run-refusing, run-changed-refusing [P3]
 --     number-refusing, form-refusing, form-on-sheet-refusing, tree-refusing, schedule-of-tree-refusing [P3]
@@ -90,7 +92,7 @@ untreed-1010 : Untreed 2 (0 ∷ 0 ∷ []) (2 ∷ 0 ∷ []) (0 ∷ 1 ∷ []) (roo
 untreed-1010 = back.found refl has-1010
 
 -- [P3] refuses everything: by any refusal, whatever is answered and left beside it
-never : {why : Refusal} → Verdict.Refused why ≡ Verdict.Accepted → ⊥
+pub never : {why : Refusal} → Verdict.Refused why ≡ Verdict.Accepted → ⊥
 never e = let z : _≡_ {A = ℕ} 0 1 = cc in omega arith
 
 module _ (why : Refusal) (m : List ℕ) (x : List (List ℕ)) where

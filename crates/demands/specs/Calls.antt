@@ -1,7 +1,7 @@
--- Thirteen of the library's entry points as calls, and what each of them answers and leaves, by the words of its
--- contract; src/lib.rt proves that of each function. The others answer a part of these: each C function but gv_version
--- one number of one of them, by an equation with the same definition, and the functions that take a list of counts the
--- same; the packing list's line is `packing`'s. Definitions only.
+-- The library's entry points as calls, and what each of them answers and leaves, by the words of its contract;
+-- src/lib.rt proves that of each function. Those that are not here answer a part of these: each C function but
+-- gv_version one number of one of them, by an equation with the same definition, and the functions that take a list of
+-- counts the same; the packing list's line is `packing`'s. Definitions only.
 --     Call            an entry point with its numbers and with what is lent to it
 --     lent            what is lent to a call, list by list
 --     Says            an answer that is one number, or a refusal
@@ -22,6 +22,7 @@ use Rattle.refusal.specs.Answer.{verdict, value}
 use Rattle.counts.specs.Counts.{counting}
 use Rattle.schedule.specs.Check.{checked}
 use Rattle.circle.specs.Answers.{nextAnswer, nextLeft, runAnswer, runLeft}
+use Rattle.circle_back.specs.Answers.{previousAnswer, previousLeft, runBackAnswer, runBackLeft}
 use Rattle.number.specs.Answers.{numberAnswer}
 use Rattle.tree.specs.Table.{Treed}
 use Rattle.tree_back.specs.Back.{Untreed}
@@ -36,6 +37,10 @@ pub data Call : Type 0 where
   changed : (t s : ℕ) (beats : List ℕ) → Call
   run : (t s : ℕ) (beats : List ℕ) (k : ℕ) → Call
   run-changed : (t s : ℕ) (beats : List ℕ) (k : ℕ) → Call
+  previous : (t s : ℕ) (beats : List ℕ) → Call
+  previous-changed : (t s : ℕ) (beats : List ℕ) → Call
+  run-back : (t s : ℕ) (beats : List ℕ) (k : ℕ) → Call
+  run-back-changed : (t s : ℕ) (beats : List ℕ) (k : ℕ) → Call
   number : (t s : ℕ) (beats : List ℕ) → Call
   form : (t s n : ℕ) (out : List ℕ) → Call
   form-on-sheet : (t s n : ℕ) (sheet : List ℕ) (column : ℕ) → Call
@@ -51,6 +56,10 @@ lent (next t s b) = b ∷ []
 lent (changed t s b) = b ∷ []
 lent (run t s b k) = b ∷ []
 lent (run-changed t s b k) = b ∷ []
+lent (previous t s b) = b ∷ []
+lent (previous-changed t s b) = b ∷ []
+lent (run-back t s b k) = b ∷ []
+lent (run-back-changed t s b k) = b ∷ []
 lent (number t s b) = b ∷ []
 lent (form t s n out) = out ∷ []
 lent (form-on-sheet t s n sheet column) = sheet ∷ []
@@ -69,6 +78,10 @@ Gives (next t s b) v m x = Says (nextAnswer t s b) v m × (x ≡ nextLeft t s b 
 Gives (changed t s b) v m x = Says (nextAnswer t s b) v m × (x ≡ b ∷ [])
 Gives (run t s b k) v m x = Says (runAnswer t s b k) v m × (x ≡ runLeft t s b k ∷ [])
 Gives (run-changed t s b k) v m x = Says (runAnswer t s b k) v m × (x ≡ b ∷ [])
+Gives (previous t s b) v m x = Says (previousAnswer t s b) v m × (x ≡ previousLeft t s b ∷ [])
+Gives (previous-changed t s b) v m x = Says (previousAnswer t s b) v m × (x ≡ b ∷ [])
+Gives (run-back t s b k) v m x = Says (runBackAnswer t s b k) v m × (x ≡ runBackLeft t s b k ∷ [])
+Gives (run-back-changed t s b k) v m x = Says (runBackAnswer t s b k) v m × (x ≡ b ∷ [])
 Gives (number t s b) v m x = Says (numberAnswer t s b) v m × (x ≡ b ∷ [])
 Gives (form t s n out) v m x = ((v ≡ formVerdict t s n out) × (m ≡ [])) × (x ≡ formLeft t s n out ∷ [])
 Gives (form-on-sheet t s n sheet column) v m x = ((v ≡ sheetVerdict t s n sheet column) × (m ≡ []))
@@ -91,6 +104,10 @@ silenced (next t s b) m = m
 silenced (changed t s b) m = m
 silenced (run t s b k) m = m
 silenced (run-changed t s b k) m = m
+silenced (previous t s b) m = m
+silenced (previous-changed t s b) m = m
+silenced (run-back t s b k) m = m
+silenced (run-back-changed t s b k) m = m
 silenced (number t s b) m = m
 silenced (form t s n out) m = m
 silenced (form-on-sheet t s n sheet column) m = m
@@ -105,6 +122,10 @@ pub data CountsOf : Call → ℕ → ℕ → Type 0 where
   of-changed : {t s : ℕ} {b : List ℕ} → CountsOf (changed t s b) t s
   of-run : {t s : ℕ} {b : List ℕ} {k : ℕ} → CountsOf (run t s b k) t s
   of-run-changed : {t s : ℕ} {b : List ℕ} {k : ℕ} → CountsOf (run-changed t s b k) t s
+  of-previous : {t s : ℕ} {b : List ℕ} → CountsOf (previous t s b) t s
+  of-previous-changed : {t s : ℕ} {b : List ℕ} → CountsOf (previous-changed t s b) t s
+  of-run-back : {t s : ℕ} {b : List ℕ} {k : ℕ} → CountsOf (run-back t s b k) t s
+  of-run-back-changed : {t s : ℕ} {b : List ℕ} {k : ℕ} → CountsOf (run-back-changed t s b k) t s
   of-number : {t s : ℕ} {b : List ℕ} → CountsOf (number t s b) t s
   of-form : {t s n : ℕ} {out : List ℕ} → CountsOf (form t s n out) t s
   of-form-on-sheet : {t s n : ℕ} {sheet : List ℕ} {column : ℕ} → CountsOf (form-on-sheet t s n sheet column) t s
@@ -119,6 +140,10 @@ pub data BeatsOf : Call → List ℕ → Type 0 where
   in-changed : {t s : ℕ} {b : List ℕ} → BeatsOf (changed t s b) b
   in-run : {t s : ℕ} {b : List ℕ} {k : ℕ} → BeatsOf (run t s b k) b
   in-run-changed : {t s : ℕ} {b : List ℕ} {k : ℕ} → BeatsOf (run-changed t s b k) b
+  in-previous : {t s : ℕ} {b : List ℕ} → BeatsOf (previous t s b) b
+  in-previous-changed : {t s : ℕ} {b : List ℕ} → BeatsOf (previous-changed t s b) b
+  in-run-back : {t s : ℕ} {b : List ℕ} {k : ℕ} → BeatsOf (run-back t s b k) b
+  in-run-back-changed : {t s : ℕ} {b : List ℕ} {k : ℕ} → BeatsOf (run-back-changed t s b k) b
   in-number : {t s : ℕ} {b : List ℕ} → BeatsOf (number t s b) b
   in-tree : {n : ℕ} {b l r p : List ℕ} → BeatsOf (tree n b l r p) b
   in-write : {kind t s : ℕ} {b out : List ℕ} → BeatsOf (write kind t s b out) b

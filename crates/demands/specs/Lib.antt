@@ -1,3 +1,4 @@
 pub mod Examples
 pub mod Calls
 pub mod Demands
+pub mod Backwards

@@ -1,6 +1,6 @@
 // The demands of the letter and the examples of the manual that are marked P, as theorems about the definitions of
 // the crates above. The definitions are in specs/, the theorems in proofs/. The functions here only hand a call on:
-// each has the words of `Gives` for its contract, so that these are proved of the thirteen functions and not only read.
+// each has the words of `Gives` for its contract, so that these are proved of the functions and not only read.
 // [D1g]
 ghost use mathlib.Core.List.{[], _∷_};
 ghost use Rattle.refusal.specs.Answer.{verdict, value};
@@ -47,6 +47,34 @@ fn run_changed(t: u64, s: u64, beats: &[u8], k: u64) -> Answer
         ∷ []) ⌝ }
 {
     circle::run_changed(t, s, beats, k)
+}
+
+fn previous(t: u64, s: u64, beats: &mut [u8]) -> Answer
+    ensures { λ r. ⌜ Gives (call.previous t s (now (beats .entry))) (verdict r) (value r ∷ []) (now (beats .exit)
+        ∷ []) ⌝ }
+{
+    circle_back::previous(t, s, beats)
+}
+
+fn previous_changed(t: u64, s: u64, beats: &[u8]) -> Answer
+    ensures { λ r. ⌜ Gives (call.previous-changed t s (now (beats .entry))) (verdict r) (value r
+        ∷ []) (now (beats .exit) ∷ []) ⌝ }
+{
+    circle_back::previous_changed(t, s, beats)
+}
+
+fn run_back(t: u64, s: u64, beats: &mut [u8], k: u64) -> Answer
+    ensures { λ r. ⌜ Gives (call.run-back t s (now (beats .entry)) k) (verdict r) (value r ∷ []) (now (beats .exit)
+        ∷ []) ⌝ }
+{
+    circle_back::run_back(t, s, beats, k)
+}
+
+fn run_back_changed(t: u64, s: u64, beats: &[u8], k: u64) -> Answer
+    ensures { λ r. ⌜ Gives (call.run-back-changed t s (now (beats .entry)) k) (verdict r) (value r
+        ∷ []) (now (beats .exit) ∷ []) ⌝ }
+{
+    circle_back::run_back_changed(t, s, beats, k)
 }
 
 fn number(t: u64, s: u64, beats: &[u8]) -> Answer

@@ -1,9 +1,9 @@
 // The library for a C host: the manual, "What we ship". Each function here is a C function on 64-bit
 // numbers and lent bytes, a slice being its pointer and then its length. A call answers one number: the
-// refusal, the place and the value of check, count and number are asked for by a call each; form, next
-// and run answer their refusal, and what next and run would change comes from calls that write nothing.
-// Nothing is kept from call to call. The contracts cite the definitions of the crates below,
-// each by an equation. [W3] [F4] [P13] [D1a] [P1]
+// refusal, the place and the value of check, count and number are asked for by a call each; form, the
+// steps and the runs, on and back, answer their refusal, and what a step or a run would change comes from
+// calls that write nothing. Nothing is kept from call to call. The contracts cite the definitions of the
+// crates below, each by an equation. [W3] [F4] [P13] [D1a] [P1]
 ghost use mathlib.Core.Path.{_≡_};
 ghost use Prim.Native.Nat.{_≤_};
 ghost use Rattle.form.specs.Answers.{formVerdict, formLeft};
@@ -11,15 +11,16 @@ ghost use Rattle.refusal.specs.Answer.{refusal, place, verdict, value};
 ghost use Rattle.counts.specs.Counts.{counting};
 ghost use Rattle.schedule.specs.Check.{checked};
 ghost use Rattle.circle.specs.Answers.{nextAnswer, nextLeft, runAnswer, runLeft};
+ghost use Rattle.circle_back.specs.Answers.{previousAnswer, previousLeft, runBackAnswer, runBackLeft};
 ghost use Rattle.number.specs.Answers.{numberAnswer};
 
-// The version, 1.1.0: major * 1000000 + minor * 1000 + patch.
-const VERSION: u64 = 1001000;
+// The version, 1.2.0: major * 1000000 + minor * 1000 + patch.
+const VERSION: u64 = 1002000;
 
 // The version of the library.
 #[no_mangle]
 pub extern "C" fn gv_version() -> u64
-    ensures { λ r. ⌜ r ≡ 1001000 ⌝ }
+    ensures { λ r. ⌜ r ≡ 1002000 ⌝ }
 {
     VERSION
 }
@@ -142,6 +143,47 @@ pub extern "C" fn gv_run_changed(t: u64, s: u64, beats: &[u8], steps: u64) -> u6
     ensures { λ r. ⌜ r ≡ value (runAnswer t s (now (beats .entry)) steps) ⌝ }
 {
     circle::run_changed(t, s, beats, steps).value()
+}
+
+// Takes the lent schedule one step back, and answers 0 or the refusal, 1 to 6. A refusal changes nothing.
+#[no_mangle]
+// [V9]
+pub extern "C" fn gv_previous(t: u64, s: u64, beats: &mut [u8]) -> u64
+    ensures { λ r. ⌜ r ≡ refusal (verdict (previousAnswer t s (now (beats .entry)))) ⌝ }
+    ensures { λ _. ⌜ now (beats .exit) ≡ previousLeft t s (now (beats .entry)) ⌝ }
+{
+    circle_back::previous(t, s, beats).verdict().refusal()
+}
+
+// The beats that gv_previous would change, and 0 where it refuses. Writes nothing.
+#[no_mangle]
+// [V9]
+pub extern "C" fn gv_previous_changed(t: u64, s: u64, beats: &[u8]) -> u64
+    ensures { λ r. ⌜ r ≡ value (previousAnswer t s (now (beats .entry))) ⌝ }
+{
+    circle_back::previous_changed(t, s, beats).value()
+}
+
+// Takes the lent schedule that many steps back, and answers 0 or the refusal: 1 to 6, then 13. A refusal
+// changes nothing.
+#[no_mangle]
+// [V10]
+pub extern "C" fn gv_run_back(t: u64, s: u64, beats: &mut [u8], steps: u64) -> u64
+    ensures { λ r. ⌜ r ≡ refusal (verdict (runBackAnswer t s (now (beats .entry)) steps)) ⌝ }
+    ensures { λ _. ⌜ now (beats .exit) ≡ runBackLeft t s (now (beats .entry)) steps ⌝ }
+{
+    circle_back::run_back(t, s, beats, steps)
+        .verdict()
+        .refusal()
+}
+
+// The beats that gv_run_back would change at its steps, added up, and 0 where it refuses. Writes nothing.
+#[no_mangle]
+// [V10]
+pub extern "C" fn gv_run_back_changed(t: u64, s: u64, beats: &[u8], steps: u64) -> u64
+    ensures { λ r. ⌜ r ≡ value (runBackAnswer t s (now (beats .entry)) steps) ⌝ }
+{
+    circle_back::run_back_changed(t, s, beats, steps).value()
 }
 
 // Lists the order records of one descriptor to another as the packing list does, to the end of the input or

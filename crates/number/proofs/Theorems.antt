@@ -6,10 +6,13 @@
 --     form-number         the form of number n has number n [D2b]
 --     number-form         and the form of a form's number is that form [D2c]
 --     walking-asking      a run of k steps from form number m leaves the form of number (m + k) mod N(t, s) [D2d]
+--     previous-number     the form before number n has number n − 1, and [V6]
+--     previous-number-0   the form before number 0 has number N(t, s) − 1 [V6]
 --     S-steps             the i-th form of the list S is i + 1 steps from t ones then s zeros [M4]
 --     S-lists, S-length   S has every schedule of t, s exactly once, and is N(t, s) long [M5]
 -- Assumes nothing.
 use mathlib.Core.List.{List, []}
+use mathlib.Core.Logic.{_⊎_, inl, inr}
 use mathlib.Core.Path.{_≡_, _∙_, ap, sym, subst}
 use Prim.Native.Nat.{ℕ, suc, _+_, _-_, _%_, _≤_, _<_}
 use native.Mathlib.Nat.{mod-lt}
@@ -21,8 +24,11 @@ use Rattle.triangle.proofs.Count.{N-pos}
 use Rattle.schedule.specs.Schedule.{Schedule, Lists}
 use Rattle.circle.specs.Step.{top}
 use Rattle.circle.specs.Walk.{steps}
+use Rattle.circle.specs.Back.{previous}
 use Rattle.circle.proofs.Rank.{rankOf}
-use Rattle.circle.proofs.Circle.{rank-lt, same-rank, steps-schedule, round, reaches, once, top-schedule, top-rank}
+use Rattle.circle.proofs.Circle.{rank-lt, same-rank, next-rank, steps-schedule, round, reaches, once}
+use Rattle.circle.proofs.Circle.{top-schedule, top-rank}
+use Rattle.circle.proofs.Backwards.{next-previous, previous-form}
 use Rattle.number.specs.Number.{Fewest, numberOf, formOf}
 use Rattle.number.specs.Groups.{S}
 use Rattle.number.proofs.Numbers.{form-schedule, form-rank, rank-fewest, fewest-rank, number-rank}
@@ -41,6 +47,24 @@ module _ {t s : ℕ} {b : List ℕ} (p : Schedule t s b) where
 
   pub number-form : formOf t s (numberOf t s b) ≡ b
   number-form = number-fewest .leads
+
+  -- the rank of the previous form: a step from it adds one, or leads from the last rank to 0
+  rank-previous : (rankOf b ≡ suc (rankOf (previous b))) ⊎ ((rankOf b ≡ 0) × (suc (rankOf (previous b)) ≡ N t s))
+  rank-previous = rw (next-previous p) at (next-rank (previous-form p))
+
+  pub previous-number : (n : ℕ) → numberOf t s b ≡ suc n → numberOf t s (previous b) ≡ n
+  previous-number n e = number-rank (previous-form p) ∙ by rank-previous (sym (number-rank p) ∙ e)
+    where
+      by : {r m : ℕ} → (r ≡ suc m) ⊎ ((r ≡ 0) × (suc m ≡ N t s)) → r ≡ suc n → m ≡ n
+      by (inl up) q = omega arith
+      by (inr down) q = omega arith
+
+  pub previous-number-0 : numberOf t s b ≡ 0 → numberOf t s (previous b) ≡ N t s - 1
+  previous-number-0 e = number-rank (previous-form p) ∙ by rank-previous (sym (number-rank p) ∙ e)
+    where
+      by : {r m : ℕ} → (r ≡ suc m) ⊎ ((r ≡ 0) × (suc m ≡ N t s)) → r ≡ 0 → m ≡ N t s - 1
+      by (inl up) q = omega arith
+      by (inr down) q = omega arith
 
 module _ {t s : ℕ} (few : s ≤ t) where
   pub form-number : (n : ℕ) → n < N t s → numberOf t s (formOf t s n) ≡ n

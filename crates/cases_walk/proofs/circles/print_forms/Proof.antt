@@ -7,10 +7,10 @@ use Rattle.cases_walk.proofs.circles.print_forms.Statement.{statement}
 use Rattle.cases_walk.proofs.circles.print_forms.Tie as tie
 
 abbrev Inv-loop : tie.InvT-loop
-Inv-loop t s beats₀ forms t5 t6 t7 counter₀ beats counter = (length beats ≡ length beats₀) × (counter ≤ forms)
+Inv-loop t s beats₀ back forms t6 t7 t8 counter₀ beats counter = (length beats ≡ length beats₀) × (counter ≤ forms)
 
 abbrev μ-loop : tie.MeasureT-loop
-μ-loop t s beats₀ forms t5 t6 t7 counter₀ beats counter = forms - counter
+μ-loop t s beats₀ back forms t6 t7 t8 counter₀ beats counter = forms - counter
 
 count-requires : tie.Need-count-requires Inv-loop μ-loop
 count-requires c κs = search needs
@@ -30,8 +30,8 @@ text-requires c κs = search needs
 beats-requires : tie.Need-beats-requires Inv-loop μ-loop
 beats-requires c κs = search needs
 
-next-requires : tie.Need-next-requires Inv-loop μ-loop
-next-requires c κs = search needs
+step-requires : tie.Need-step-requires Inv-loop μ-loop
+step-requires c κs = search needs
 
 add-counter : tie.Need-add-counter Inv-loop μ-loop
 add-counter c = search needs
@@ -75,7 +75,7 @@ print-forms-spec =
     slice-aggregate-text
     text-requires
     beats-requires
-    next-requires
+    step-requires
     add-counter
     loop-less
     loop-again

@@ -7,11 +7,11 @@ use Rattle.cases_walk.proofs.circles.print_round.Statement.{statement}
 use Rattle.cases_walk.proofs.circles.print_round.Tie as tie
 
 abbrev Inv-loop : tie.InvT-loop
-Inv-loop t s beats₀ forms changed₀ sum₀ t7 t8 t9 t10 t11 counter₀ beats changed sum counter =
+Inv-loop t s beats₀ back forms changed₀ sum₀ t8 t9 t10 t11 t12 counter₀ beats changed sum counter =
     (length beats ≡ length beats₀) × (counter ≤ forms)
 
 abbrev μ-loop : tie.MeasureT-loop
-μ-loop t s beats₀ forms changed₀ sum₀ t7 t8 t9 t10 t11 counter₀ beats changed sum counter = forms - counter
+μ-loop t s beats₀ back forms changed₀ sum₀ t8 t9 t10 t11 t12 counter₀ beats changed sum counter = forms - counter
 
 count-requires : tie.Need-count-requires Inv-loop μ-loop
 count-requires c κs = search needs
@@ -25,11 +25,8 @@ loop-holds c = search needs
 digest-requires : tie.Need-digest-requires Inv-loop μ-loop
 digest-requires c κs = search needs
 
-next-requires : tie.Need-next-requires Inv-loop μ-loop
-next-requires c κs = search needs
-
-value-requires-2 : tie.Need-value-requires-2 Inv-loop μ-loop
-value-requires-2 c κs = search needs
+step-requires : tie.Need-step-requires Inv-loop μ-loop
+step-requires c κs = search needs
 
 wrapping-add-u64-requires : tie.Need-wrapping-add-u64-requires Inv-loop μ-loop
 wrapping-add-u64-requires c κs = search needs
@@ -101,8 +98,7 @@ print-round-spec =
     value-requires
     loop-holds
     digest-requires
-    next-requires
-    value-requires-2
+    step-requires
     wrapping-add-u64-requires
     add-counter
     loop-less

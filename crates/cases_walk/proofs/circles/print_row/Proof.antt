@@ -5,10 +5,10 @@ use Rattle.cases_walk.proofs.circles.print_row.Statement.{statement}
 use Rattle.cases_walk.proofs.circles.print_row.Tie as tie
 
 abbrev Inv-loop : tie.InvT-loop
-Inv-loop t whole s₀ s = s ≤ 9
+Inv-loop t whole back s₀ s = s ≤ 9
 
 abbrev μ-loop : tie.MeasureT-loop
-μ-loop t whole s₀ s = 9 - s
+μ-loop t whole back s₀ s = 9 - s
 
 loop-holds : tie.Need-loop-holds Inv-loop μ-loop
 loop-holds c = search needs

@@ -5,10 +5,10 @@ use Rattle.cases_walk.proofs.circles.print_rows.Statement.{statement}
 use Rattle.cases_walk.proofs.circles.print_rows.Tie as tie
 
 abbrev Inv-loop : tie.InvT-loop
-Inv-loop rows whole t₀ t = t ≤ rows
+Inv-loop rows whole back t₀ t = t ≤ rows
 
 abbrev μ-loop : tie.MeasureT-loop
-μ-loop rows whole t₀ t = rows - t
+μ-loop rows whole back t₀ t = rows - t
 
 loop-holds : tie.Need-loop-holds Inv-loop μ-loop
 loop-holds c = search needs
