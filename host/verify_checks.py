@@ -248,6 +248,8 @@ BREAKS = {
         Break("no logs", "target/must-fail", gone, ("target/must-fail", "rt must-fail", "rt ci")),
         Break("a log gone", LOG, gone, (EDIT, "no log")),
         Break("an empty log", LOG, becomes(""), (EDIT, "nothing that can be read")),
+        Break("a log without the need", LOG, becomes("has no `Need-returns` that can be named from here"), (EDIT, "the shape")),
+        Break("a log without the call", LOG, becomes("record `After-next` has no field `previous`"), (EDIT, "the shape")),
         Break("a sham deleted", SHAMS, drop("| P6b "), (SHAMS, "P6b")),
         Break("another count", SHAMS, swap(" wrong programs in ", "0 wrong programs in "), (SHAMS, "it says")),
         Break("another fact", SHAM, swap("`accepted-place`.", "`accepted`."), (EDIT, "`accepted-place`, and it says")),

@@ -18,7 +18,7 @@ REFUSED = re.compile(r"(?:# .+\n)+# Refused at (`[^`]+`: `[^`]+`)\.\n(?!#)")
 COUNTS = re.compile(r"\b(\d+) wrong programs in (\d+) edits\b")
 CLAIM = re.compile(r"\bP\d[a-z]?\b")
 ERROR = re.compile(r"/(proofs|specs|src)/([^\s:]+)\.\w+:\d+:\d+: error: `([^`]+)`: (.*)")
-SHAPE = "that can be named from here"  # of a need which the edited code no longer has
+SHAPE = re.compile(r"that can be named from here|\bhas no field\b")  # of a need or a call which the edited code no longer has
 NO_PROOF = re.compile(r"^fn \w+::(\S+): no proof: .*`search` does not close `([^`]+)`", re.M)
 
 
@@ -31,7 +31,7 @@ def refused_at(path):
 def facts(log):
     """What the prover first refused at each place: a need of a function's proof, or a law. An error that only follows from another is
     passed over. A proof that no longer fits the code shows nothing of the fact, and no edit says that."""
-    if SHAPE in log:
+    if SHAPE.search(log):
         return ["the shape"]
     first = {}
     for part, file, name, why in ERROR.findall(log):
