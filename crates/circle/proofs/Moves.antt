@@ -1,6 +1,8 @@
 -- What the rule does to a schedule, by its shape.
 --     Moved b c       c is what the rule makes of b, one constructor for each shape
+--     found-some      where the found 1 is, by the shape
 --     has01-none, has01-some     ones and zeros alone have no 01, and with a 1 after them they have
+--     isSchedule-plays     a list of these counts is a schedule exactly if it plays
 --     next-moves      the next form of a schedule is what the rule makes of it
 -- Assumes nothing.
 use mathlib.Core.Bool.{Bool, true, false, false≢true, cond, and-eq-true-iff}
