@@ -1,5 +1,4 @@
 -- The verdicts of reading, row by row, and what a reader answers and leaves by them.
---     given            what holds of every reason of an order holds of the one that it gives
 --     told-verdict         an answer has the verdict that it was made from
 --     told-refused, told-why, told-accepted     the answer of a verdict that is known
 --     late-counts, late-number, late-check     refusals after which the record's bytes are consumed
@@ -10,8 +9,8 @@
 --     unpacked-beats       unpacked beats are zeros and ones
 -- Assumes nothing.
 use mathlib.Core.Bool.{Bool, true, false, not}
-use mathlib.Core.List.{List, [], _∷_}
-use mathlib.Core.Path.{_≡_, refl, sym, _∙_, ap, subst}
+use mathlib.Core.List.{List, _∷_}
+use mathlib.Core.Path.{_≡_, refl, sym, _∙_, ap}
 use Prim.Native.Nat.{ℕ, _+_, _≤_, _<_}
 use native.Mathlib.Omega.{arith}
 use borrow.Author.Tests.{eq-eqb, ne-eqb, le-ltb}
@@ -21,8 +20,8 @@ use Rattle.form.specs.Answers.{numberRows, formRows}
 use Rattle.refusal.specs.declared.Refusal.{Refusal}
 use Rattle.refusal.specs.declared.Refusal.the-variants.{WrongSize, WrongLength, BadBeat}
 use Rattle.refusal.specs.declared.Verdict.{Verdict}
-use Rattle.refusal.specs.Rows.{Row, _⇒_, judge}
-use Rattle.refusal.proofs.Rows.{judge-accepted}
+use Rattle.refusal.specs.Rows.{_⇒_, judge}
+use Rattle.refusal.proofs.Rows.{judge-accepted, given}
 use Rattle.counts.specs.Counts.{Allowed, countRows}
 use Rattle.counts.proofs.Sizes.{allowed-counts}
 use Rattle.schedule.specs.Check.{badBeat, handRows, playRows, beatRows, checkRows, checked}
@@ -35,30 +34,20 @@ use Rattle.record.specs.declared.reading.Reading.{Reading}
 use Rattle.record.specs.Parts as said
 use Rattle.reader.specs.Answers.{told}
 
--- what holds of every reason of an order holds of the one that it gives
-abbrev pub All : (Refusal → Type 0) → List Row → Type 0
-All P [] = Unit {0}
-All P ((test ⇒ why) ∷ rows) = P why × All P rows
-
-pub given : (P : Refusal → Type 0) (rows : List Row) → All P rows → {why : Refusal} → judge rows ≡ Verdict.Refused why
-    → P why
-given P [] a e = let z : _≡_ {A = ℕ} 0 1 = cc in absurd (omega arith)
-given P ((true ⇒ first) ∷ rows) a {why} e = let same : first ≡ why = cc in subst P same (a .0)
-given P ((false ⇒ first) ∷ rows) a e = given P rows (a .1) e
-
 -- a refusal that comes after the record was found whole
 abbrev pub Late : Refusal → Type 0
 Late why = (l : ℕ) → eaten why l ≡ 2 + l
 
 pub late-counts : (t s : ℕ) {why : Refusal} → judge (countRows t s) ≡ Verdict.Refused why → Late why
-late-counts t s = given Late (countRows t s) (λ l. refl, (λ l. refl, tt))
+late-counts t s = given Late (countRows t s) (λ so l. refl, (λ so l. refl, tt))
 
 pub late-number : (t s n : ℕ) {why : Refusal} → judge (numberRows t s n) ≡ Verdict.Refused why → Late why
-late-number t s n = given Late (numberRows t s n) (λ l. refl, (λ l. refl, (λ l. refl, tt)))
+late-number t s n = given Late (numberRows t s n) (λ so l. refl, (λ so l. refl, (λ so l. refl, tt)))
 
 pub late-check : (t s : ℕ) (b : List ℕ) {why : Refusal} → checked t s b ≡ Verdict.Refused why → Late why
 late-check t s b =
-    given Late (checkRows t s b) (λ l. refl, (λ l. refl, (λ l. refl, (λ l. refl, (λ l. refl, (λ l. refl, tt))))))
+    given Late (checkRows t s b)
+    (λ so l. refl, (λ so l. refl, (λ so l. refl, (λ so l. refl, (λ so l. refl, (λ so l. refl, tt))))))
 
 pub told-verdict : (t s n l : ℕ) (v : Verdict) → said.verdict (told t s n l v) ≡ v
 told-verdict t s n l Verdict.Accepted = refl

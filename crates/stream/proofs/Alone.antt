@@ -23,13 +23,14 @@ use Rattle.refusal.specs.Refusal.{refusalNumber}
 use Rattle.refusal.specs.Rows.{judge}
 use Rattle.triangle.specs.Count.{mostBeats}
 use Rattle.counts.specs.Counts.{countRows}
-use Rattle.record.specs.Bytes.{valueOf}
+use Rattle.record.specs.Bytes.{valueOf, unpacked}
 use Rattle.record.specs.declared.layout.Layout.{Layout}
 use Rattle.record.specs.Layout.{layoutOf, countsAt, isUnknown}
 use Rattle.record.specs.Record.{long, longest, layoutIn, upsAt, downsAt, bodyAt, ups, downs, body}
 use Rattle.record.specs.Record.{packedRows, cut, kindRows, eaten}
 use Rattle.reader.proofs.Heads.{cut-above, cut-rest, whole-long}
-use Rattle.reader.proofs.Verdicts.{given}
+use Rattle.refusal.proofs.Rows.{All, given}
+use Rattle.schedule.specs.Check.{handRows}
 use Rattle.reader.proofs.Answering.{
   numbered-long,
   numbered-fits,
@@ -49,17 +50,18 @@ use Rattle.stream.proofs.Fronts.{settled-whole}
 abbrev Goes : Refusal → Type 0
 Goes why = ((l : ℕ) → eaten why l ≡ 2 + l) × (eqb (refusalNumber why) 9 ≡ false)
 
+hand-goes : (t : ℕ) (b : List ℕ) → All Goes (handRows t b)
+hand-goes t b = (λ so. (λ l. refl, refl), (λ so. (λ l. refl, refl), tt))
+
 kind-goes : (k : Layout) (src : List ℕ) → isUnknown k ≡ false → {why : Refusal}
     → judge (kindRows k src) ≡ Verdict.Refused why → Goes why
 kind-goes (Layout.Numbered at) src u e =
     given Goes (kindRows (Layout.Numbered at) src)
-    ((λ l. refl, refl), ((λ l. refl, refl), ((λ l. refl, refl), ((λ l. refl, refl), tt)))) e
+    (λ so. (λ l. refl, refl), (λ so. (λ l. refl, refl), (λ so. (λ l. refl, refl), (λ so. (λ l. refl, refl), tt)))) e
 kind-goes (Layout.Beaten at) src u e =
-    given Goes (kindRows (Layout.Beaten at) src) (
-      (λ l. refl, refl),
-      ((λ l. refl, refl), ((λ l. refl, refl), ((λ l. refl, refl), ((λ l. refl, refl), ((λ l. refl, refl), tt))))),
-    )
-    e
+    let hand = hand-goes (upsAt at src) (unpacked (upsAt at src + downsAt at src) (bodyAt at src)) in
+    given Goes (kindRows (Layout.Beaten at) src)
+    (λ so. (λ l. refl, refl), (λ so. (λ l. refl, refl), (λ so. (λ l. refl, refl), (λ so. (λ l. refl, refl), hand)))) e
 kind-goes Layout.Unknown src u e = absurd (true≢false u)
 
 module _ (src : List ℕ) where
