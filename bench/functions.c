@@ -5,8 +5,9 @@
                              the best of many passes
      functions once COUNTS   makes one pass, for a counter of instructions, and prints for each way how many
                              calls, or steps, the pass has
-   COUNTS are t and s, or the word mixed. The twins are compiled apart, so that no call is inlined or left out.
-   The seeds are fixed: every run has the same inputs. */
+   COUNTS are t and s, or the word mixed. After them the word off is for forms with a one too many or too few, on
+   which the functions are called that answer a surplus. The twins are compiled apart, so that no call is inlined
+   or left out. The seeds are fixed: every run has the same inputs. */
 #include <stdio.h>
 #include <stdlib.h>
 #include <string.h>
@@ -30,17 +31,19 @@ enum {
 
 typedef uint64_t counting(uint64_t t, uint64_t s);
 typedef uint64_t reading(uint64_t t, uint64_t s, const uint8_t *beats, size_t length);
+typedef int32_t exceeding(uint64_t t, uint64_t s, const uint8_t *beats, size_t length);
 typedef uint64_t stepping(uint64_t t, uint64_t s, uint8_t *beats, size_t length);
 typedef uint64_t forming(uint64_t t, uint64_t s, uint64_t number, uint8_t *out, size_t length);
 typedef uint64_t running(uint64_t t, uint64_t s, uint8_t *beats, size_t length, uint64_t steps);
 typedef uint64_t tracing(uint64_t t, uint64_t s, const uint8_t *beats, size_t length, uint64_t steps);
 
-/* One way to do a function: exactly one of the six is there. */
+/* One way to do a function: exactly one of the seven is there. */
 struct way {
     const char *function, *how;
     int measured;
     counting *count;
     reading *read;
+    exceeding *exceed;
     stepping *step;
     forming *form;
     running *run;
@@ -55,6 +58,8 @@ static const struct way ways[] = {
     {"check_place", "gv", 1, .read = gv_check_place},
     {"check_place", "bytes", 1, .read = bytes_check_place},
     {"check_place", "words", 1, .read = words_check_place},
+    {"check_surplus", "gv", 1, .exceed = gv_check_surplus},
+    {"check_surplus", "bytes", 1, .exceed = bytes_check_surplus},
     {"count_refusal", "gv", 0, .count = gv_count_refusal},
     {"count_refusal", "table", 0, .count = table_count_refusal},
     {"count_place", "gv", 0, .count = gv_count_place},
@@ -87,6 +92,8 @@ static const struct way ways[] = {
     {"number_refusal", "bytes", 0, .read = bytes_check_refusal},
     {"number_place", "gv", 0, .read = gv_number_place},
     {"number_place", "bytes", 0, .read = bytes_check_place},
+    {"number_surplus", "gv", 1, .exceed = gv_number_surplus},
+    {"number_surplus", "bytes", 1, .exceed = bytes_number_surplus},
     {"number", "gv", 1, .read = gv_number},
     {"number", "bytes", 1, .read = bytes_number},
     {"number", "masks", 1, .read = masks_number},
@@ -113,14 +120,26 @@ static uint64_t scattered(uint64_t bound) {
     return (z ^ z >> 31) % bound;
 }
 
-/* Fills the inputs of counts t, s. */
-static void prepare(uint64_t t, uint64_t s) {
+/* Makes the last 0 of a form a 1, or, where two are in hand at the end, its last 1 a 0. A form of one beat or none
+   stays as it is. */
+static void miscount(uint64_t t, uint64_t s, uint8_t *form) {
+    uint8_t fewer = t >= s + 2 && (s == 0 || scattered(2));
+    size_t place = t + s;
+    if (place < 2) return;
+    while (form[--place] != fewer)
+        ;
+    form[place] = !fewer;
+}
+
+/* Fills the inputs of counts t, s: forms, or, where they are off, forms with a one too many or too few. */
+static void prepare(uint64_t t, uint64_t s, int off) {
     seed = 64 * t + s;
     for (int k = 0; k < FORMS; k++) {
         ts[k] = t == MIXED ? scattered(LARGEST + 1) : t;
         ss[k] = t == MIXED ? scattered(ts[k] + 1) : s;
         numbers[k] = scattered(table_count(ts[k], ss[k]));
         bytes_form(ts[k], ss[k], numbers[k], beats[k], ts[k] + ss[k]);
+        if (off) miscount(ts[k], ss[k], beats[k]);
     }
 }
 
@@ -139,6 +158,13 @@ APART uint64_t pass_reads(reading *call) {
     uint64_t sum = 0;
     for (int k = 0; k < FORMS; k++)
         sum += call(ts[k], ss[k], beats[k], ts[k] + ss[k]);
+    return sum;
+}
+
+APART uint64_t pass_surpluses(exceeding *call) {
+    uint64_t sum = 0;
+    for (int k = 0; k < FORMS; k++)
+        sum += (uint64_t)call(ts[k], ss[k], beats[k], ts[k] + ss[k]);
     return sum;
 }
 
@@ -174,6 +200,7 @@ APART uint64_t pass_traces(tracing *call) {
 static uint64_t pass(const struct way *way) {
     if (way->count) return pass_counts(way->count);
     if (way->read) return pass_reads(way->read);
+    if (way->exceed) return pass_surpluses(way->exceed);
     if (way->step) return pass_steps(way->step);
     if (way->form) return pass_forms(way->form);
     if (way->run) return pass_runs(way->run);
@@ -183,6 +210,11 @@ static uint64_t pass(const struct way *way) {
 /* How many calls, or steps of a run, a pass has. */
 static int units(const struct way *way) {
     return way->run || way->trace ? WALKS * STEPS : FORMS;
+}
+
+/* Whether a way is measured: of forms that are off, those that answer a surplus. */
+static int measured(const struct way *way, int off) {
+    return off ? way->exceed != NULL : way->measured;
 }
 
 /* How many ways, from the first on, are of its function. */
@@ -233,16 +265,16 @@ static void measure(const struct way *first) {
         printf("%s %s %.3f\n", first->function, first[k].how, best[k] / units(first));
 }
 
-static void measure_all(void) {
+static void measure_all(int off) {
     for (const struct way *first = ways; first < ways + WAYS; first += ways_of(first))
-        if (first->measured) measure(first);
+        if (measured(first, off)) measure(first);
 }
 
 /* ---- one pass, under a counter ---- */
 
-static void once(void) {
+static void once(int off) {
     for (const struct way *way = ways; way < ways + WAYS; way++)
-        if (way->measured) {
+        if (measured(way, off)) {
             memcpy(work, beats, sizeof work);
             pass(way);
             printf("%s %s %d\n", way->function, way->how, units(way));
@@ -266,6 +298,7 @@ static uint64_t answered(const struct way *way, const struct input *in, uint8_t 
     calls++;
     if (way->count) return way->count(in->t, in->s);
     if (way->read) return way->read(in->t, in->s, left, in->length);
+    if (way->exceed) return (uint64_t)way->exceed(in->t, in->s, left, in->length);
     if (way->step) return way->step(in->t, in->s, left, in->length);
     if (way->form) return way->form(in->t, in->s, in->number, left, in->length);
     if (way->run) return way->run(in->t, in->s, left, in->length, in->steps);
@@ -273,8 +306,7 @@ static uint64_t answered(const struct way *way, const struct input *in, uint8_t 
 }
 
 static void fail(const struct way *way, const struct input *in, uint64_t ours, uint64_t its) {
-    printf("%s by %s answers %llu, the library %llu", way->function, way->how, (unsigned long long)its,
-           (unsigned long long)ours);
+    printf("%s by %s answers %lld, the library %lld", way->function, way->how, (long long)its, (long long)ours);
     printf("%s; t %llu, s %llu, number %llu, steps %llu, beats", its == ours ? ", and leaves other bytes" : "",
            (unsigned long long)in->t, (unsigned long long)in->s, (unsigned long long)in->number,
            (unsigned long long)in->steps);
@@ -309,9 +341,11 @@ static struct input input_of(uint64_t t, uint64_t s, uint64_t number, uint64_t s
 
 /* The forms of counts as they are measured, a few steps each, and from the first as many as a run may have. */
 static void agree_on_measured(uint64_t t, uint64_t s) {
-    prepare(t, s);
+    prepare(t, s, 0);
     for (int k = 0; k < FORMS; k++) {
         struct input in = input_of(ts[k], ss[k], numbers[k], k == 0 ? LONGEST_RUN : scattered(100));
+        agree_on(&in);
+        miscount(ts[k], ss[k], in.beats);
         agree_on(&in);
     }
 }
@@ -372,15 +406,16 @@ static void agree(void) {
 }
 
 int main(int count, char **words) {
-    int mixed = count == 3 && strcmp(words[2], "mixed") == 0;
+    int off = count > 3 && strcmp(words[count - 1], "off") == 0;
+    int mixed = count == 3 + off && strcmp(words[2], "mixed") == 0;
     plain_prepare();
     if (count == 2 && strcmp(words[1], "agree") == 0) {
         agree();
         return 0;
     }
-    if (count != 4 && !mixed) return 2;
-    prepare(mixed ? MIXED : strtoull(words[2], NULL, 10), mixed ? 0 : strtoull(words[3], NULL, 10));
-    if (strcmp(words[1], "time") == 0) measure_all();
-    if (strcmp(words[1], "once") == 0) once();
+    if (count != 4 + off && !mixed) return 2;
+    prepare(mixed ? MIXED : strtoull(words[2], NULL, 10), mixed ? 0 : strtoull(words[3], NULL, 10), off);
+    if (strcmp(words[1], "time") == 0) measure_all(off);
+    if (strcmp(words[1], "once") == 0) once(off);
     return 0;
 }

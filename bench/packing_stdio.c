@@ -15,8 +15,8 @@ static void make_forms(void) {
             forms[t][s] = s == 0 ? 1 : forms[t - 1][s] + forms[t][s - 1];
 }
 
-static void refused(int refusal, int place) {
-    printf("refused %d %d\n", refusal, place);
+static void refused(int refusal, int place, int surplus) {
+    printf("refused %d %d %d\n", refusal, place, surplus);
 }
 
 static void accepted(int t, int s, uint64_t n, const char *beats) {
@@ -72,7 +72,7 @@ static void numbered(int t, int s, const unsigned char *bytes) {
     for (int k = 7; k >= 0; k--)
         n = n << 8 | bytes[k];
     if (n >= forms[t][s]) {
-        refused(7, 0);
+        refused(7, 0, 0);
         return;
     }
     form(t, s, n == 0 ? forms[t][s] : n, beats);
@@ -83,14 +83,14 @@ static void packed(int t, int s, const unsigned char *bytes, int length) {
     char beats[BEATS + 1] = "";
     int ones = 0, bare = -1;
     if (length != (t + s + 7) / 8) {
-        refused(11, 0);
+        refused(11, 0, 0);
         return;
     }
     for (int k = 0; k < 8 * length; k++) {
         int beat = bytes[k / 8] >> (7 - k % 8) & 1;
         if (k >= t + s) {
             if (beat) {
-                refused(11, 0);
+                refused(11, 0, 0);
                 return;
             }
             continue;
@@ -102,9 +102,9 @@ static void packed(int t, int s, const unsigned char *bytes, int length) {
             bare = k;
     }
     if (bare >= 0)
-        refused(5, bare);
+        refused(5, bare, 0);
     else if (ones != t)
-        refused(6, 0);
+        refused(6, 0, ones - t);
     else
         accepted(t, s, number(t, s, beats), beats);
 }
@@ -113,24 +113,24 @@ static void packed(int t, int s, const unsigned char *bytes, int length) {
 static void line(const unsigned char *body, int length) {
     int kind, t, s;
     if (length < 2) {
-        refused(11, 0);
+        refused(11, 0, 0);
         return;
     }
     kind = body[0] | body[1] << 8;
     if (kind != 1 && kind != 2) {
-        refused(10, 0);
+        refused(10, 0, 0);
         return;
     }
     if (kind == 1 ? length != 12 : length < 4) {
-        refused(11, 0);
+        refused(11, 0, 0);
         return;
     }
     t = body[2];
     s = body[3];
     if (t > LARGEST)
-        refused(1, 0);
+        refused(1, 0, 0);
     else if (s > t)
-        refused(2, 0);
+        refused(2, 0, 0);
     else if (kind == 1)
         numbered(t, s, body + 4);
     else
@@ -144,7 +144,7 @@ int main(void) {
     while ((got = fread(size, 1, 2, stdin)) > 0) {
         int length = size[0] | size[1] << 8;
         if (got < 2 || length > LONGEST || fread(body, 1, length, stdin) < (size_t)length) {
-            refused(9, 0);
+            refused(9, 0, 0);
             break;
         }
         line(body, length);

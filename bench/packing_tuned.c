@@ -181,11 +181,14 @@ static u8 *accepted(u8 *at, unsigned t, unsigned s, u64 n, struct bits beats) {
     return at;
 }
 
-static u8 *refused(u8 *at, unsigned refusal, unsigned place) {
+static u8 *refused(u8 *at, unsigned refusal, unsigned place, int surplus) {
     memcpy(at, "refused ", 8);
     at = decimal(at + 8, refusal);
     *at++ = ' ';
     at = decimal(at, place);
+    *at++ = ' ';
+    if (surplus < 0) *at++ = '-';
+    at = decimal(at, surplus < 0 ? -surplus : surplus);
     *at++ = '\n';
     return at;
 }
@@ -243,14 +246,14 @@ static u64 number(unsigned t, unsigned s, struct bits beats, u64 sum) {
 }
 
 /* Beats that are no schedule: the first set-down with nothing in hand, or else the wrong number of ones. */
-static u8 *no_schedule(u8 *at, unsigned length, struct bits beats) {
+static u8 *no_schedule(u8 *at, unsigned t, unsigned s, struct bits beats) {
     int hand = 0;
-    for (unsigned k = 0; k < length; k++) {
+    for (unsigned k = 0; k < t + s; k++) {
         u64 beat = k < WORD ? beats.word >> (WORD - 1 - k) : beats.rest >> (WORD + 7 - k);
         hand += beat & 1 ? 1 : -1;
-        if (hand < 0) return refused(at, 5, k);
+        if (hand < 0) return refused(at, 5, k, 0);
     }
-    return refused(at, 6, 0);
+    return refused(at, 6, 0, (hand + (int)s - (int)t) / 2);
 }
 
 static u8 *packed(u8 *at, unsigned length, const u8 *body) {
@@ -258,28 +261,28 @@ static u8 *packed(u8 *at, unsigned length, const u8 *body) {
     struct bits beats = {__builtin_bswap64(word(body + 4)) & first[8 * width].word, 0};
     if (BEATS > WORD) beats.rest = body[4 + WORD / 8] & first[8 * width].rest;
     u64 unused = (beats.word & ~first[t + s].word) | (beats.rest & ~first[t + s].rest);
-    if (length != 4 + width || unused) return refused(at, 11, 0);
-    if (ones(beats.word) + (beats.rest ? ones(beats.rest) : 0) != t) return no_schedule(at, t + s, beats);
+    if (length != 4 + width || unused) return refused(at, 11, 0, 0);
+    if (ones(beats.word) + (beats.rest ? ones(beats.rest) : 0) != t) return no_schedule(at, t, s, beats);
     worth sum = worth_of(t, beats);
-    if (sum[1]) return no_schedule(at, t + s, beats);
+    if (sum[1]) return no_schedule(at, t, s, beats);
     return accepted(at, t, s, number(t, s, beats, sum[0]), beats);
 }
 
 static u8 *numbered(u8 *at, const u8 *body) {
     unsigned t = body[2], s = body[3];
     u64 n = word(body + 4);
-    if (n >= forms[t][s]) return refused(at, 7, 0);
+    if (n >= forms[t][s]) return refused(at, 7, 0, 0);
     return accepted(at, t, s, n, n ? form(t, s, n - 1) : first[t]);
 }
 
 /* The line of what stands after a length. */
 static u8 *line(u8 *at, unsigned length, const u8 *body) {
-    if (length < 2) return refused(at, 11, 0);
+    if (length < 2) return refused(at, 11, 0, 0);
     unsigned kind = body[0] | body[1] << 8;
-    if (kind != 1 && kind != 2) return refused(at, 10, 0);
-    if (kind == 1 ? length != 12 : length < 4) return refused(at, 11, 0);
-    if (body[2] > LARGEST) return refused(at, 1, 0);
-    if (body[3] > body[2]) return refused(at, 2, 0);
+    if (kind != 1 && kind != 2) return refused(at, 10, 0, 0);
+    if (kind == 1 ? length != 12 : length < 4) return refused(at, 11, 0, 0);
+    if (body[2] > LARGEST) return refused(at, 1, 0, 0);
+    if (body[3] > body[2]) return refused(at, 2, 0, 0);
     return kind == 1 ? numbered(at, body) : packed(at, length, body);
 }
 
@@ -324,7 +327,7 @@ int main(void) {
         if (put - out > BLOCK) flush();
         unsigned length = from[0] | from[1] << 8;
         if (end - from < 2 || length > LONGEST || end - from < 2 + (int)length) {
-            put = refused(put, 9, 0);
+            put = refused(put, 9, 0, 0);
             break;
         }
         put = line(put, length, from + 2);

@@ -9,8 +9,17 @@
 /* A 1 in each byte of a word. */
 #define EACH ((uint64_t)0x0101010101010101)
 
+/* Compiled into each that calls it, without what that one does not need. */
+#define INTO_EACH static inline __attribute__((always_inline))
+
 struct verdict {
     uint64_t refusal, place;
+};
+
+/* The same, and how many ones are above t. */
+struct miscount {
+    struct verdict verdict;
+    int64_t surplus;
 };
 
 /* The leftmost 0, and the 1 of the leftmost 0 followed by 1; the length where there is none. */
@@ -67,17 +76,21 @@ static uint64_t misfit(uint64_t t, uint64_t s, size_t length) {
 
 /* ---- the check ---- */
 
-static struct verdict bytes_check(uint64_t t, uint64_t s, const uint8_t *beats, size_t length) {
+INTO_EACH struct miscount bytes_counted(uint64_t t, uint64_t s, const uint8_t *beats, size_t length) {
     uint64_t refusal = misfit(t, s, length);
-    if (refusal) return (struct verdict){refusal, 0};
+    if (refusal) return (struct miscount){{refusal, 0}, 0};
     for (size_t k = 0; k < length; k++)
-        if (beats[k] > 1) return (struct verdict){4, k};
+        if (beats[k] > 1) return (struct miscount){{4, k}, 0};
     int64_t hand = 0;
     for (size_t k = 0; k < length; k++) {
         hand += 2 * (int64_t)beats[k] - 1;
-        if (hand < 0) return (struct verdict){5, k};
+        if (hand < 0) return (struct miscount){{5, k}, 0};
     }
-    return (struct verdict){(uint64_t)hand + s != t ? 6 : 0, 0};
+    return (struct miscount){{(uint64_t)hand + s != t ? 6 : 0, 0}, (hand + (int64_t)s - (int64_t)t) / 2};
+}
+
+static struct verdict bytes_check(uint64_t t, uint64_t s, const uint8_t *beats, size_t length) {
+    return bytes_counted(t, s, beats, length).verdict;
 }
 
 static uint64_t word(const uint8_t *at) {
@@ -142,6 +155,10 @@ uint64_t words_check_refusal(uint64_t t, uint64_t s, const uint8_t *beats, size_
 
 uint64_t words_check_place(uint64_t t, uint64_t s, const uint8_t *beats, size_t length) {
     return words_check(t, s, beats, length).place;
+}
+
+int32_t bytes_check_surplus(uint64_t t, uint64_t s, const uint8_t *beats, size_t length) {
+    return (int32_t)bytes_counted(t, s, beats, length).surplus;
 }
 
 /* ---- the count ---- */
@@ -253,9 +270,7 @@ static size_t bytes_skip(const uint8_t *beats, size_t length, size_t from, uint8
 /* bytes_skip or words_skip. What takes one is compiled for each of them, and calls nothing by a pointer. */
 typedef size_t skipping(const uint8_t *beats, size_t length, size_t from, uint8_t beat);
 
-#define FOR_EACH_SKIP static inline __attribute__((always_inline))
-
-FOR_EACH_SKIP uint64_t changes_back(const uint8_t *beats, size_t length, skipping *skip) {
+INTO_EACH uint64_t changes_back(const uint8_t *beats, size_t length, skipping *skip) {
     size_t zero = skip(beats, length, 0, 1);
     if (zero == length) return 0;
     if (zero > 1) return 2;
@@ -267,7 +282,7 @@ FOR_EACH_SKIP uint64_t changes_back(const uint8_t *beats, size_t length, skippin
 /* Takes the step back, and answers the beats that it changes. A 1 at the second place goes back behind the zeros in
    front; where they are as many as the ones, before the last of them, which would set down with nothing in hand. A 0
    there goes back behind the 1 after the next zeros, or, where there is none, to the end. */
-FOR_EACH_SKIP uint64_t step_back(uint8_t *beats, size_t length, skipping *skip) {
+INTO_EACH uint64_t step_back(uint8_t *beats, size_t length, skipping *skip) {
     size_t zero = skip(beats, length, 0, 1);
     if (zero == length) return 0;
     size_t one = skip(beats, length, zero, 0);
@@ -502,6 +517,10 @@ uint64_t words_number(uint64_t t, uint64_t s, const uint8_t *beats, size_t lengt
     worth sum = worth_of(bits);
     if (sum[1]) return 0;
     return closed(t, s, sum[0], bits_front(bits, s));
+}
+
+int32_t bytes_number_surplus(uint64_t t, uint64_t s, const uint8_t *beats, size_t length) {
+    return bytes_check_surplus(t, s, beats, length);
 }
 
 /* ---- the form ---- */

@@ -14,6 +14,7 @@ uint64_t bytes_check_refusal(uint64_t t, uint64_t s, const uint8_t *beats, size_
 uint64_t bytes_check_place(uint64_t t, uint64_t s, const uint8_t *beats, size_t length);
 uint64_t words_check_refusal(uint64_t t, uint64_t s, const uint8_t *beats, size_t length);
 uint64_t words_check_place(uint64_t t, uint64_t s, const uint8_t *beats, size_t length);
+int32_t bytes_check_surplus(uint64_t t, uint64_t s, const uint8_t *beats, size_t length);
 
 /* table: one load. */
 uint64_t table_count_refusal(uint64_t t, uint64_t s);
@@ -41,10 +42,11 @@ uint64_t scan_run_back(uint64_t t, uint64_t s, uint8_t *beats, size_t length, ui
 uint64_t scan_run_back_changed(uint64_t t, uint64_t s, const uint8_t *beats, size_t length, uint64_t steps);
 
 /* bytes: the check by bytes and a branch on each beat. masks: the check by words and no branch on a beat.
-   words: the beats packed into words, of which only the ones are visited. */
+   words: the beats packed into words, of which only the ones are visited. The surplus is the check's. */
 uint64_t bytes_number(uint64_t t, uint64_t s, const uint8_t *beats, size_t length);
 uint64_t masks_number(uint64_t t, uint64_t s, const uint8_t *beats, size_t length);
 uint64_t words_number(uint64_t t, uint64_t s, const uint8_t *beats, size_t length);
+int32_t bytes_number_surplus(uint64_t t, uint64_t s, const uint8_t *beats, size_t length);
 
 /* bytes: a branch on each beat. masks: none. */
 uint64_t bytes_form(uint64_t t, uint64_t s, uint64_t number, uint8_t *out, size_t length);

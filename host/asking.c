@@ -101,11 +101,12 @@ void rely(int holds, const char *what, uint64_t t, uint64_t s) {
     give_up();
 }
 
-static void expect(uint64_t expected, uint64_t got) {
+/* A surplus has a sign. The other answers have none, and where they are right they are below 2^63. */
+static void expect(int64_t expected, int64_t got) {
     if (expected == got)
         return;
     print_call();
-    printf("expected %" PRIu64 ", got %" PRIu64, expected, got);
+    printf("expected %" PRId64 ", got %" PRId64, expected, got);
     give_up();
 }
 
@@ -131,6 +132,7 @@ static void expect_left(const uint8_t *expected) {
 
 typedef uint64_t counts_function(uint64_t t, uint64_t s);
 typedef uint64_t reading_function(uint64_t t, uint64_t s, const uint8_t *beats, size_t length);
+typedef int32_t surplus_function(uint64_t t, uint64_t s, const uint8_t *beats, size_t length);
 typedef uint64_t stepping_function(uint64_t t, uint64_t s, uint8_t *beats, size_t length);
 typedef uint64_t running_function(uint64_t t, uint64_t s, uint8_t *beats, size_t length, uint64_t steps);
 typedef uint64_t tracing_function(uint64_t t, uint64_t s, const uint8_t *beats, size_t length, uint64_t steps);
@@ -151,6 +153,13 @@ static void ask_counts(const char *name, counts_function *call, const struct inp
 }
 
 static void ask_reading(const char *name, reading_function *call, const struct input *in, uint64_t expected) {
+    const uint8_t *beats = lend_for_reading(in->beats, in->length);
+    begin(name, in, 1, NULL, 0);
+    expect(expected, call(in->t, in->s, beats, in->length));
+    expect_left(in->beats);
+}
+
+static void ask_surplus(const char *name, surplus_function *call, const struct input *in, int64_t expected) {
     const uint8_t *beats = lend_for_reading(in->beats, in->length);
     begin(name, in, 1, NULL, 0);
     expect(expected, call(in->t, in->s, beats, in->length));
@@ -255,8 +264,10 @@ void verify_schedule(const struct input *in) {
     }
     ask_reading("gv_check_refusal", gv_check_refusal, in, verdict.refusal);
     ask_reading("gv_check_place", gv_check_place, in, verdict.place);
+    ask_surplus("gv_check_surplus", gv_check_surplus, in, verdict.surplus);
     ask_reading("gv_number_refusal", gv_number_refusal, in, verdict.refusal);
     ask_reading("gv_number_place", gv_number_place, in, verdict.place);
+    ask_surplus("gv_number_surplus", gv_number_surplus, in, verdict.surplus);
     ask_reading("gv_number", gv_number, in, number);
     ask_reading("gv_next_changed", gv_next_changed, in, changed);
     ask_step("gv_next", gv_next, in, verdict.refusal, next);
@@ -311,7 +322,16 @@ static void ask_long(const char *name, reading_function *call, const uint8_t *ze
     expect(expected, call(in.t, in.s, zeros, LONG_LENGTH));
 }
 
-/* The functions that write, as ones that read: a slice of the wrong length is not written. */
+/* The functions that answer a surplus, which is 0 here, and those that write, as ones that read: a slice of the
+   wrong length is not written. */
+
+static uint64_t check_surplus_of_zeros(uint64_t t, uint64_t s, const uint8_t *beats, size_t length) {
+    return (uint64_t)gv_check_surplus(t, s, beats, length);
+}
+
+static uint64_t number_surplus_of_zeros(uint64_t t, uint64_t s, const uint8_t *beats, size_t length) {
+    return (uint64_t)gv_number_surplus(t, s, beats, length);
+}
 
 static uint64_t form_of_zeros(uint64_t t, uint64_t s, const uint8_t *out, size_t length) {
     return gv_form(t, s, 0, (uint8_t *)out, length);
@@ -345,8 +365,10 @@ void verify_long_slice(void) {
     const uint8_t *zeros = map_zeros(LONG_LENGTH);
     ask_long("gv_check_refusal", gv_check_refusal, zeros, 3);
     ask_long("gv_check_place", gv_check_place, zeros, 0);
+    ask_long("gv_check_surplus", check_surplus_of_zeros, zeros, 0);
     ask_long("gv_number_refusal", gv_number_refusal, zeros, 3);
     ask_long("gv_number_place", gv_number_place, zeros, 0);
+    ask_long("gv_number_surplus", number_surplus_of_zeros, zeros, 0);
     ask_long("gv_number", gv_number, zeros, 0);
     ask_long("gv_form", form_of_zeros, zeros, 3);
     ask_long("gv_next", next_of_zeros, zeros, 3);

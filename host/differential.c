@@ -149,24 +149,34 @@ static void verify_example(const struct example *example) {
     verify_counts(example->t, example->s);
 }
 
-static void verify_refusal(uint64_t t, uint64_t s, const char *digits, uint64_t refusal, uint64_t place) {
+/* An input to the refusal, the place and the surplus that are known of it. */
+static void verify_known(const struct input *in, struct verdict known) {
+    struct verdict verdict = judge_schedule(in->t, in->s, in->beats, in->length);
+    rely(verdict.refusal == known.refusal, "an example's refusal differs", in->t, in->s);
+    rely(verdict.place == known.place, "an example's place differs", in->t, in->s);
+    rely(verdict.surplus == known.surplus, "an example's surplus differs", in->t, in->s);
+    verify_schedule(in);
+    verify_counts(in->t, in->s);
+}
+
+static void verify_refusal(uint64_t t, uint64_t s, const char *digits, uint64_t refusal, uint64_t place,
+                           int64_t surplus) {
     struct input in = {0};
-    struct verdict verdict;
+    struct verdict known = {refusal, place, surplus};
     read_digits(&in, t, s, digits);
-    verdict = judge_schedule(t, s, in.beats, in.length);
-    rely(verdict.refusal == refusal && verdict.place == place, "an example's refusal differs", t, s);
-    verify_schedule(&in);
-    verify_counts(t, s);
+    verify_known(&in, known);
 }
 
 static void refused_examples(void) {
     struct input in = {0};
-    verify_refusal(GV_MAX_TASKS + 1, 0, "", 1, 0);
-    verify_refusal(200, 0, "", 1, 0);
-    verify_refusal(2, 3, "", 2, 0);
-    verify_refusal(2, 1, "111", 6, 0);
-    verify_refusal(2, 2, "1001", 5, 2);
-    verify_refusal(2, 1, "11", 3, 0);
+    verify_refusal(GV_MAX_TASKS + 1, 0, "", 1, 0, 0);
+    verify_refusal(200, 0, "", 1, 0, 0);
+    verify_refusal(2, 3, "", 2, 0, 0);
+    verify_refusal(2, 1, "111", 6, 0, 1);
+    verify_refusal(3, 1, "1010", 6, 0, -1);
+    verify_refusal(2, 0, "10", 6, 0, -1);
+    verify_refusal(2, 2, "1001", 5, 2, 0);
+    verify_refusal(2, 1, "11", 3, 0, 0);
     read_digits(&in, 3, 2, "11010");
     rely(judge_form(3, 2, 4, 5).refusal == 0 && judge_form(3, 2, 5, 5).refusal == 7, "number 4 or 5", 3, 2);
     rely(judge_run(3, 2, in.beats, 5, 65535).refusal == 0, "run 65535", 3, 2);
@@ -344,6 +354,66 @@ static void damaged_forms(void) {
             }
 }
 
+/* Surpluses. */
+
+/* So many ones, and then zeros, as beats of t, s. */
+static struct input ones_first(uint64_t t, uint64_t s, uint64_t ones) {
+    struct input in = {t, s, t + s, {0}};
+    write_first(ones, t + s - ones, in.beats);
+    return in;
+}
+
+/* The largest counts with all ones, with as few as keep something in hand, with t, and with one more or one fewer. */
+static void largest_surpluses(void) {
+    static const struct {
+        uint64_t s, ones;
+        struct verdict known;
+    } named[] = {
+        {0, GV_MAX_TASKS, {0, 0, 0}},
+        {0, GV_MAX_TASKS - 1, {6, 0, -1}},
+        {0, GV_MAX_TASKS / 2, {6, 0, -(GV_MAX_TASKS / 2)}},
+        {GV_MAX_TASKS - 1, GV_MAX_BEATS - 1, {6, 0, GV_MAX_TASKS - 1}},
+        {GV_MAX_TASKS - 1, GV_MAX_TASKS + 1, {6, 0, 1}},
+        {GV_MAX_TASKS - 1, GV_MAX_TASKS, {0, 0, 0}},
+        {GV_MAX_TASKS - 1, GV_MAX_TASKS - 1, {5, GV_MAX_BEATS - 2, 0}},
+        {GV_MAX_TASKS, GV_MAX_BEATS, {6, 0, GV_MAX_TASKS}},
+        {GV_MAX_TASKS, GV_MAX_TASKS + 1, {6, 0, 1}},
+        {GV_MAX_TASKS, GV_MAX_TASKS, {0, 0, 0}},
+        {GV_MAX_TASKS, GV_MAX_TASKS - 1, {5, GV_MAX_BEATS - 2, 0}},
+    };
+    size_t at;
+    for (at = 0; at < sizeof named / sizeof named[0]; at++) {
+        struct input in = ones_first(GV_MAX_TASKS, named[at].s, named[at].ones);
+        verify_known(&in, named[at].known);
+    }
+}
+
+/* So many ones, and each zero as early as it can be; the zeros are no more than the ones. */
+static struct input zeros_early(uint64_t t, uint64_t s, uint64_t ones) {
+    struct input in = ones_first(t, s, t + s);
+    uint64_t zero;
+    for (zero = 0; zero < t + s - ones; zero++)
+        in.beats[2 * zero + 1] = 0;
+    return in;
+}
+
+/* Every number of ones with every pair of counts. [Q7] */
+static void surpluses(void) {
+    uint64_t t, s, ones;
+    struct input in;
+    largest_surpluses();
+    for (t = 0; t <= GV_MAX_TASKS; t++)
+        for (s = 0; s <= t; s++)
+            for (ones = 0; ones <= t + s; ones++) {
+                in = ones_first(t, s, ones);
+                verify_schedule(&in);
+                if (t + s - ones > ones)
+                    continue;
+                in = zeros_early(t, s, ones);
+                verify_schedule(&in);
+            }
+}
+
 /* The list after this one, of beats below base, and whether there is one; the first is all zeros. */
 static int next_list(struct input *in, uint8_t base) {
     size_t at;
@@ -496,6 +566,7 @@ static const struct {
     {"circles back", circles_back},
     {"small forms", small_forms},
     {"damaged forms", damaged_forms},
+    {"surpluses", surpluses},
     {"lists of 0 and 1", lists_of_two},
     {"lists of 0, 1 and 2", lists_of_three},
     {"counts", counts},

@@ -1,8 +1,8 @@
 /*
  * A scoring host in small: ships the form of an order, counts the forms that it chose from, takes the sheet back,
- * goes on to the next form and to the third after it, goes all four back, and turns a wrong sheet away. Prints a
- * line for each, and ends with status 1 where one is not as it should be. The forms are those of the manual,
- * "Examples on both sides".
+ * goes on to the next form and to the third after it, goes all four back, and turns three wrong sheets away, of
+ * which two have a take-up too many or too few. Prints a line for each, and ends with status 1 where one is not
+ * as it should be. The forms are those of the manual, "Examples on both sides".
  */
 #include <inttypes.h>
 #include <stdio.h>
@@ -101,7 +101,21 @@ static void turn_away(void) {
     require(strcmp(text, "a task is set down with nothing in hand") == 0, "the refusal has another text");
 }
 
+/* A sheet whose take-ups are not those of its counts: how many are too many, or missing. */
+static void turn_away_miscounted(uint64_t t, uint64_t s, const uint8_t *wrong, int32_t expected) {
+    size_t length = (size_t)(t + s);
+    uint64_t refusal = gv_check_refusal(t, s, wrong, length);
+    int32_t surplus = gv_check_surplus(t, s, wrong, length);
+    printf("Sheet %s: refused %" PRIu64 ": %s, ", digits(wrong, length), refusal, gv_refusal_text(refusal));
+    if (surplus < 0)
+        printf("%" PRId32 " missing\n", -surplus);
+    else
+        printf("%" PRId32 " too many\n", surplus);
+    require(refusal == GV_WRONG_TAKE_UPS && surplus == expected, "the wrong sheet has another surplus");
+}
+
 int main(void) {
+    static const uint8_t too_many[] = {1, 1, 1}, too_few[] = {1, 0, 1, 0};
     uint8_t beats[BEATS];
     require(gv_version() == GV_VERSION, "the header and the library are of two versions");
     ship(beats);
@@ -111,5 +125,7 @@ int main(void) {
     run_on(beats);
     run_back(beats);
     turn_away();
+    turn_away_miscounted(2, 1, too_many, 1);
+    turn_away_miscounted(3, 1, too_few, -1);
     return EXIT_SUCCESS;
 }

@@ -4,7 +4,12 @@
 #include <string.h>
 
 static struct verdict refused(uint64_t refusal, uint64_t place) {
-    struct verdict verdict = {refusal, place};
+    struct verdict verdict = {refusal, place, 0};
+    return verdict;
+}
+
+static struct verdict miscounted(int64_t surplus) {
+    struct verdict verdict = {6, 0, surplus};
     return verdict;
 }
 
@@ -48,7 +53,7 @@ static size_t first_empty_hand(const uint8_t *beats, size_t length) {
 
 struct verdict judge_schedule(uint64_t t, uint64_t s, const uint8_t *beats, size_t length) {
     struct verdict counts = judge_counts(t, s);
-    size_t bad, empty;
+    size_t bad, empty, ones;
     if (counts.refusal != 0)
         return counts;
     if (length != t + s)
@@ -59,8 +64,9 @@ struct verdict judge_schedule(uint64_t t, uint64_t s, const uint8_t *beats, size
     empty = first_empty_hand(beats, length);
     if (empty < length)
         return refused(5, empty);
-    if (how_many(beats, length, 1) != t)
-        return refused(6, 0);
+    ones = how_many(beats, length, 1);
+    if (ones != t)
+        return miscounted((int64_t)ones - (int64_t)t);
     return accepted();
 }
 

@@ -25,9 +25,10 @@ enum { MOST_BEATS = 2 * MOST_TASKS, MOST_STEPS = 65535 };
 /* With more than 36 tasks there are counts that 64 bits do not hold: this line does not compile then. */
 typedef char counts_fit_64_bits[MOST_TASKS <= 36 ? 1 : -1];
 
-/* A refusal's number and place, both 0 for an accepted call. */
+/* A refusal's number and place, and how many ones are above t; all 0 for an accepted call. */
 struct verdict {
     uint64_t refusal, place;
+    int64_t surplus;
 };
 
 /* What each call is refused for, in 01's order; the lengths are of the lent slices. */

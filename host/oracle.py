@@ -1,22 +1,37 @@
 """The manual once more, as plainly as it can be written, for the tests: slow, and sharing no code and no idea with
 crates/.
 
-count(t, s) and check(t, s, beats) answer refusal and place as the document's table does; successor(t, s, beats) is the
-step. form_of(t, s, n) and number_of(t, s, beats) are the form of a number and the number of a form, by the groups of
-source 000's list and not by walking. No step is undone: run_back(t, s, beats, k) takes the form of an earlier number
-and walks on from it. tree(n, ..) and schedule_of_tree(n, ..) go by nested pairs, read from the beats or from the
-tables.
+What a call is refused for is one value, a Why, and each call passes it on whole: check(t, s, beats) answers it alone,
+count(t, s) and the others before all else. successor(t, s, beats) is the step. form_of(t, s, n) and
+number_of(t, s, beats) are the form of a number and the number of a form, by the groups of source 000's list and not by
+walking. No step is undone: run_back(t, s, beats, k) takes the form of an earlier number and walks on from it.
+tree(n, ..) and schedule_of_tree(n, ..) go by nested pairs, read from the beats or from the tables.
 """
 from functools import cache
 from itertools import product
 from math import comb
+from typing import NamedTuple
 
 from verifying import sure
 
 LARGEST = 32  # the largest number of tasks that a schedule takes up, here and in all that takes it from here
 BEATS = 2 * LARGEST  # of the longest schedule
 MOST_STEPS = 65535  # of a run
-ACCEPTED = (0, 0)
+
+
+class Why(NamedTuple):
+    """What a call is refused for: the number, the beat at fault, and how many ones are above t. All are 0, and it is
+    false, where the call is accepted."""
+
+    refusal: int
+    place: int = 0
+    surplus: int = 0
+
+    def __bool__(self):
+        return self.refusal != 0
+
+
+ACCEPTED = Why(0)
 
 # Table 1 of source 000, as printed there: row t, column s. [P8]
 TABLE_1 = [
@@ -58,29 +73,38 @@ def forms(t, s):
     return 1 if s == 0 else comb(t + s, t) - comb(t + s, t + 1)
 
 
+def allowed(t, s):
+    """What a pair of counts is refused for."""
+    return Why(1) if t > LARGEST else Why(2) if s > t else ACCEPTED
+
+
 def count(t, s):
-    if t > LARGEST:
-        return (1, 0, 0)
-    if s > t:
-        return (2, 0, 0)
-    return (0, 0, forms(t, s))
+    """Why, and the count."""
+    why = allowed(t, s)
+    return (why, 0 if why else forms(t, s))
 
 
 def check(t, s, beats):
-    """The refusal and the place; 4 over all beats before 5."""
-    refusal = count(t, s)[0]
-    if refusal:
-        return (refusal, 0)
+    """What beats are refused for; 4 over all beats before 5."""
+    why = allowed(t, s)
+    if why:
+        return why
     if len(beats) != t + s:
-        return (3, 0)
+        return Why(3)
     for place, beat in enumerate(beats):
         if beat not in (0, 1):
-            return (4, place)
+            return Why(4, place)
     for place, beat in enumerate(beats):
         before = beats[:place]
         if beat == 0 and before.count(1) - before.count(0) == 0:
-            return (5, place)
-    return ACCEPTED if beats.count(1) == t else (6, 0)
+            return Why(5, place)
+    return ACCEPTED if beats.count(1) == t else Why(6, surplus=beats.count(1) - t)
+
+
+def surpluses(t, s):
+    """The surpluses that beats of these counts can be refused with. By as much there are fewer zeros: no fewer than
+    none, and no more than the ones."""
+    return [more for more in range(-t, s + 1) if more != 0 and s - more <= t + more]
 
 
 def shifted(beats, k):
@@ -104,9 +128,8 @@ def changed(old, new):
 
 
 def may_run(t, s, beats, k):
-    """The refusal and the place of a run, on or back."""
-    refusal, place = check(t, s, beats)
-    return (13, 0) if not refusal and k > MOST_STEPS else (refusal, place)
+    """What a run is refused for, on or back."""
+    return check(t, s, beats) or (Why(13) if k > MOST_STEPS else ACCEPTED)
 
 
 @cache
@@ -122,12 +145,12 @@ def walked(t, s, beats, k):
 
 # [E6]
 def run(t, s, beats, k):
-    """Refusal, place, changed beats and the schedule left."""
-    refusal, place = may_run(t, s, beats, k)
-    if refusal:
-        return (refusal, place, 0, beats)
+    """Why, changed beats and the schedule left."""
+    why = may_run(t, s, beats, k)
+    if why:
+        return (why, 0, beats)
     worked, left = walked(t, s, tuple(beats), k)
-    return (0, 0, worked, [*left])
+    return (why, worked, [*left])
 
 
 @cache
@@ -169,38 +192,37 @@ def number_of(t, s, beats):
 
 def run_back(t, s, beats, k):
     """What run gives, of k steps back: the form k numbers before this one, and what k steps on from there change."""
-    refusal, place = may_run(t, s, beats, k)
-    if refusal:
-        return (refusal, place, 0, beats)
+    why = may_run(t, s, beats, k)
+    if why:
+        return (why, 0, beats)
     earlier = form_of(t, s, (number_of(t, s, beats) - k) % forms(t, s))
-    _, _, worked, arrived = run(t, s, earlier, k)
+    _, worked, arrived = run(t, s, earlier, k)
     sure(arrived == beats, f"{k} steps on from the form {k} numbers before one of ({t}, {s}) do not lead to it")
-    return (0, 0, worked, earlier)
+    return (why, worked, earlier)
 
 
 def number(t, s, beats):
-    """Refusal, place and number."""
-    refusal, place = check(t, s, beats)
-    return (refusal, place, 0 if refusal else number_of(t, s, beats))
+    """Why, and the number."""
+    why = check(t, s, beats)
+    return (why, 0 if why else number_of(t, s, beats))
 
 
 def numbered(t, s, n):
-    """The refusal of a number."""
-    refusal = count(t, s)[0]
-    return refusal if refusal else 7 if n >= forms(t, s) else 0
+    """What a number is refused for."""
+    return allowed(t, s) or (Why(7) if n >= forms(t, s) else ACCEPTED)
 
 
 # [E7b]
 def form(t, s, n, out):
-    """Refusal and the bytes left."""
-    refusal = numbered(t, s, n) or (3 if len(out) != t + s else 0)
-    return (refusal, out if refusal else form_of(t, s, n))
+    """Why, and the bytes left."""
+    why = numbered(t, s, n) or (Why(3) if len(out) != t + s else ACCEPTED)
+    return (why, out if why else form_of(t, s, n))
 
 
 def form_on_sheet(t, s, n, sheet, column):
-    """Refusal and the sheet left."""
-    refusal = numbered(t, s, n) or (12 if column + t + s > len(sheet) else 0)
-    return (refusal, sheet if refusal else sheet[:column] + form_of(t, s, n) + sheet[column + t + s :])
+    """Why, and the sheet left."""
+    why = numbered(t, s, n) or (Why(12) if column + t + s > len(sheet) else ACCEPTED)
+    return (why, sheet if why else sheet[:column] + form_of(t, s, n) + sheet[column + t + s :])
 
 
 def tree_of(beats):
@@ -239,13 +261,12 @@ def tables_of(root):
 
 
 def tree(n, beats, tables):
-    """Refusal, place and the three tables left."""
-    refusal, place = (1, 0) if n > LARGEST else ACCEPTED
-    if not refusal and [len(table) for table in tables] != [n] * 3:
-        refusal = 3
-    if not refusal:
-        refusal, place = check(n, n, beats)
-    return (refusal, place, tables if refusal else tables_of(tree_of(beats)))
+    """Why, and the three tables left."""
+    why = allowed(n, n)
+    if not why and [len(table) for table in tables] != [n] * 3:
+        why = Why(3)
+    why = why or check(n, n, beats)
+    return (why, tables if why else tables_of(tree_of(beats)))
 
 
 def key(tables):
@@ -283,10 +304,10 @@ def schedule_with(n, tables):
 
 
 def schedule_of_tree(n, tables, out):
-    """Refusal and the bytes left."""
+    """Why, and the bytes left."""
     if n > LARGEST:
-        return (1, out)
+        return (Why(1), out)
     if [len(table) for table in tables] != [n] * 3 or len(out) != 2 * n:
-        return (3, out)
+        return (Why(3), out)
     beats = schedule_with(n, tables)
-    return (8, out) if beats is None else (0, beats)
+    return (Why(8), out) if beats is None else (ACCEPTED, beats)

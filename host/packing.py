@@ -1,17 +1,19 @@
 #!/usr/bin/env python3
 """The manual's packing list once more, on top of the oracle, for the tests [E11]: host/packing.py < records > lines.
 
-line_of(data, at) reads the record that starts at data[at:], in the reading order of the document; lines(data) is the
-whole list. record(kind, t, s, beats) makes a record's bytes. The slice that a reader lends is taken to be large enough,
-so there is no 12.
+read(data) reads the record that data starts with, in the reading order of the document; line_of(data, at) is the line
+of the one that starts at data[at:], and lines(data) the whole list. record(kind, t, s, beats) makes a record's bytes.
+The slice that a reader lends is taken to be large enough, so there is no 12.
 """
 import functools
 import sys
 
 import oracle
+from oracle import Why
 
 LONGEST = 1020
 NUMBERED, PACKED = 1, 2
+NOTHING = (0, 0, 0, [])  # what a refused record says: t, s, number and beats
 
 
 def framed(body):
@@ -36,55 +38,71 @@ def record(kind, t, s, beats):
     return numbered(t, s, oracle.number_of(t, s, beats)) if kind == NUMBERED else packed(t, s, beats)
 
 
-def refused(refusal, place=0):
-    return f"refused {refusal} {place}"
+def refused(why):
+    return f"refused {why.refusal} {why.place} {why.surplus}"
 
 
 def accepted(t, s, n, beats):
     return f"{t} {s} {n} {''.join(map(str, beats)) or '-'}"
 
 
-def numbered_line(t, s, n):
-    refusal = oracle.numbered(t, s, n)
-    return refused(refusal) if refusal else accepted(t, s, n, oracle.form_of(t, s, n))
+def numbered_form(t, s, n):
+    """What a record of kind 1 says of allowed counts: why it is refused, and t, s, number and beats."""
+    why = oracle.numbered(t, s, n)
+    return (why, NOTHING if why else (t, s, n, oracle.form_of(t, s, n)))
 
 
-def packed_line(t, s, packs):
+def packed_form(t, s, packs):
+    """The same of kind 2."""
     bits = [int(digit) for byte in packs for digit in f"{byte:08b}"]
     if len(packs) != -(-(t + s) // 8) or any(bits[t + s :]):
-        return refused(11)
+        return (Why(11), NOTHING)
     beats = bits[: t + s]
-    refusal, place, n = oracle.number(t, s, beats)
-    return refused(refusal, place) if refusal else accepted(t, s, n, beats)
+    why, n = oracle.number(t, s, beats)
+    return (why, NOTHING if why else (t, s, n, beats))
+
+
+def body_form(body):
+    """The same of what stands after a length, all of it there."""
+    if len(body) < 2:
+        return (Why(11), NOTHING)
+    kind = int.from_bytes(body[:2], "little")
+    if kind not in (NUMBERED, PACKED):
+        return (Why(10), NOTHING)
+    if len(body) != 12 if kind == NUMBERED else len(body) < 4:
+        return (Why(11), NOTHING)
+    t, s = body[2:4]
+    why = oracle.allowed(t, s)
+    if why:
+        return (why, NOTHING)
+    return numbered_form(t, s, int.from_bytes(body[4:], "little")) if kind == NUMBERED else packed_form(t, s, body[4:])
 
 
 # Streams of the tests repeat records.
 @functools.lru_cache(1 << 16)
 def body_line(body):
-    """The line of what stands after the length, all of it there."""
-    if len(body) < 2:
-        return refused(11)
-    kind = int.from_bytes(body[:2], "little")
-    if kind not in (NUMBERED, PACKED):
-        return refused(10)
-    if len(body) != 12 if kind == NUMBERED else len(body) < 4:
-        return refused(11)
-    t, s = body[2:4]
-    refusal = oracle.count(t, s)[0]
-    if refusal:
-        return refused(refusal)
-    if kind == NUMBERED:
-        return numbered_line(t, s, int.from_bytes(body[4:], "little"))
-    return packed_line(t, s, body[4:])
+    """The line of the same."""
+    why, form = body_form(body)
+    return refused(why) if why else accepted(*form)
+
+
+def body_at(data, at):
+    """What stands after the length of the record at data[at:]; None where it is cut short, or that is too large."""
+    length = int.from_bytes(data[at : at + 2], "little")
+    end = at + 2 + length
+    return None if end > len(data) or length > LONGEST else data[at + 2 : end]
+
+
+def read(data):
+    """What the record says that data starts with: why it is refused; t, s, number and beats; the bytes it consumes."""
+    body = body_at(data, 0)
+    return (Why(9), NOTHING, 0) if body is None else (*body_form(body), 2 + len(body))
 
 
 def line_of(data, at):
     """The line of the record at data[at:], the bytes it consumes, and whether the list stops after this line."""
-    length = int.from_bytes(data[at : at + 2], "little")
-    end = at + 2 + length
-    if end > len(data) or length > LONGEST:
-        return (refused(9), 0, True)
-    return (body_line(data[at + 2 : end]), 2 + length, False)
+    body = body_at(data, at)
+    return (refused(Why(9)), 0, True) if body is None else (body_line(body), 2 + len(body), False)
 
 
 def lines(data):

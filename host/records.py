@@ -65,15 +65,10 @@ def nothing_in_hand(rng):
 
 
 def ones_not_t(rng):
-    """A form with a set-down made a take-up, or with its last take-up made a set-down."""
+    """A form of as many beats with other ones, by any surplus that can occur."""
     t, s = counts(rng)
-    beats = oracle.form_of(t, s, number(rng, t, s))
-    places = [k for k, b in enumerate(beats) if b == 0]
-    if places and rng.random() < 0.7:
-        beats[rng.choice(places)] = 1
-    elif t:
-        beats[max(k for k, b in enumerate(beats) if b == 1)] = 0
-    return packing.packed(t, s, beats)
+    more = rng.choice(oracle.surpluses(t, s) or [0])
+    return packing.packed(t, s, oracle.form_of(t + more, s - more, number(rng, t + more, s - more)))
 
 
 def unused_bits(rng):

@@ -14,6 +14,8 @@ import sys
 
 import oracle
 import packing
+from oracle import ACCEPTED, Why
+from packing import refused
 from verifying import ROOT, Wrong, contents, ended, sure
 
 
@@ -22,16 +24,20 @@ PLACES = oracle.BEATS + 2  # that the programs lend to a reader, where a line do
 ROOM = 16  # and to a writer
 
 
-def pairs(largest):
-    """The allowed counts t, s with t up to a number, as the programs print them."""
-    return [f"{t} {s}" for t in range(largest + 1) for s in range(t + 1)]
+def pairs(largest, beats=oracle.BEATS):
+    """The allowed counts t, s with t up to a number and up to so many beats, as the programs print them."""
+    return [f"{t} {s}" for t in range(largest + 1) for s in range(t + 1) if t + s <= beats]
 
 
 # The lines of each program by how they begin, of the kinds that go through all of something.
 TABLE_1 = range(9)  # the rows t of Table 1 of source 000; row t has the columns s from 0 to t
 FIGURE_2_3, WORDS = "4 4", 14  # the counts of the words of Figure 2.3 of source 001, and how many words there are
 THROUGH = {
-    "cases_ground": {"counts": [f"of {t}" for t in range(LARGEST + 1)], "lists": [f"of {t}" for t in TABLE_1]},
+    "cases_ground": {
+        "counts": [f"of {t}" for t in range(LARGEST + 1)],
+        "lists": [f"of {t}" for t in TABLE_1],
+        "off": pairs(12, beats=12),
+    },
     "cases_walk": {"order": pairs(4), "round": pairs(8), "order_back": pairs(4), "round_back": pairs(8)},
     "cases_number": {"both": pairs(8), "ends": pairs(LARGEST)},
     "cases_tree": {"trees": [*range(8)], "combinations": [1, 2]},
@@ -39,32 +45,35 @@ THROUGH = {
 }
 # How many lines each program has of the other kinds, and those of them that the manual gives.
 STATED = {
-    "cases_ground": {"count": 8, "check": 42},
+    "cases_ground": {"count": 8, "check": 49},
     "cases_walk": {
-        "next": 12,
-        "changed": 12,
-        "run": 19,
-        "previous": 16,
-        "previous_changed": 16,
-        "run_back": 25,
-        "run_back_changed": 25,
+        "next": 13,
+        "changed": 13,
+        "run": 20,
+        "previous": 17,
+        "previous_changed": 17,
+        "run_back": 26,
+        "run_back_changed": 26,
     },
-    "cases_number": {"number": 33, "form": 25, "sheet": 26},
+    "cases_number": {"number": 34, "form": 25, "sheet": 26},
     "cases_tree": {"tree": 69, "back": 98, "damage": 12},
     "cases_record": {"write": 261, "read": 271, "filled": 16, "changes": 9},
 }
 EXAMPLES = {
-    "cases_ground": (f"count {LARGEST + 1} 0", "count 2 3", "check 2 1 111", "check 2 2 1001", "check 2 1 11"),
+    "cases_ground": (
+        f"count {LARGEST + 1} 0",
+        "count 2 3",
+        "check 2 1 111",
+        "check 3 1 1010",
+        "check 2 2 1001",
+        "check 2 1 11",
+    ),
     "cases_walk": ("run 65535 3 2 11100", "run 65536 2 1 110"),
     "cases_number": ("form 3 2 4 5", "form 3 2 5 5"),
     "cases_tree": ("tree 6 111001001100 6 6 6", "back 1 0 0 1 2"),
     "cases_record": (),
 }
 SOURCES = {"counts": "Table 1 of source 000", "lists": "Table 1 of source 000", "order": "Figure 2.3 of source 001"}
-
-
-def refused(refusal, place):
-    return f"refused {refusal} {place}"
 
 
 def beats_of(text):
@@ -90,14 +99,20 @@ def lists_of(t):
     return " ".join(map(str, found))
 
 
+def with_value(why, value):
+    return refused(why) if why else str(value)
+
+
 def count(t, s):
-    refusal, place, value = oracle.count(int(t), int(s))
-    return refused(refusal, place) if refusal else str(value)
+    return with_value(*oracle.count(int(t), int(s)))
+
+
+def said_of(why):
+    return refused(why) if why else "accepted"
 
 
 def check(t, s, text):
-    refusal, place = oracle.check(int(t), int(s), beats_of(text))
-    return refused(refusal, place) if refusal else "accepted"
+    return said_of(oracle.check(int(t), int(s), beats_of(text)))
 
 
 def text_of(beats):
@@ -129,6 +144,23 @@ def digest(forms):
     return value
 
 
+def folded(why):
+    """The numbers of a verdict that the programs fold; of the surplus, how large it is and whether it is negative."""
+    return [why.refusal, why.place, abs(why.surplus), int(why.surplus < 0)]
+
+
+def off(t, s):
+    """How many lists of t + s zeros and ones are refused 6, and the digest of what all are refused for. Those with a
+    surplus are the schedules of as many more ones and fewer zeros, and no surplus but these is there."""
+    t, s = int(t), int(s)
+    lists = (list(reversed(beats)) for beats in itertools.product((0, 1), repeat=t + s))
+    whys = [oracle.check(t, s, beats) for beats in lists]
+    found = dict(collections.Counter(why.surplus for why in whys if why.refusal == 6))
+    right = {more: oracle.forms(t + more, s - more) for more in oracle.surpluses(t, s)}
+    sure(found == right, f"the lists of ({t}, {s}) have these surpluses: {found}, and {right} is right")
+    return f"{sum(found.values())} {digest(map(folded, whys))}"
+
+
 def turned(forms):
     """The forms of a circle in their order back, from the same form."""
     return forms[:1] + forms[:0:-1]
@@ -158,8 +190,8 @@ def round_back(t, s):
     return round_through(t, s, turned(circle(t, s)))
 
 
-def with_answer(refusal, place, worked, left):
-    return f"{refused(refusal, place) if refusal else worked} {text_of(left)}"
+def with_answer(why, value, left):
+    return f"{with_value(why, value)} {text_of(left)}"
 
 
 def without_left(line):
@@ -218,16 +250,15 @@ def ends(t, s):
     forms = [oracle.form_of(t, s, x) for x in chosen(n)]
     sure(all(oracle.is_schedule(t, s, f) for f in forms), "the groups have a form that is no schedule")
     sure([oracle.number_of(t, s, f) for f in forms] == chosen(n), "a form of the groups has another number")
-    return f"{n - 1} {oracle.numbered(t, s, n)} {digest(forms)}"
+    return f"{n - 1} {oracle.numbered(t, s, n).refusal} {digest(forms)}"
 
 
 def number(t, s, text):
-    refusal, place, value = oracle.number(int(t), int(s), beats_of(text))
-    return refused(refusal, place) if refusal else str(value)
+    return with_value(*oracle.number(int(t), int(s), beats_of(text)))
 
 
-def with_left(refusal, beats):
-    return f"{refused(refusal, 0) if refusal else 'accepted'} {text_of(beats)}"
+def with_left(why, *slices):
+    return " ".join([said_of(why), *map(text_of, slices)])
 
 
 def form(t, s, n, length):
@@ -239,8 +270,8 @@ def sheet(t, s, n, column, length):
 
 
 def tree(n, text, *lengths):
-    refusal, place, tables = oracle.tree(int(n), beats_of(text), [[7] * int(length) for length in lengths])
-    return f"{refused(refusal, place) if refusal else 'accepted'} {' '.join(map(text_of, tables))}"
+    why, tables = oracle.tree(int(n), beats_of(text), [[7] * int(length) for length in lengths])
+    return with_left(why, *tables)
 
 
 def back(n, left, right, parent, length):
@@ -250,14 +281,14 @@ def back(n, left, right, parent, length):
 
 def after_tree(n, beats):
     """The verdict of the way there, then the bytes that were lent to it as they are after it."""
-    refusal, place, tables = oracle.tree(n, beats, [[7] * n] * 3)
-    return [[refusal, place], *tables, beats]
+    why, tables = oracle.tree(n, beats, [[7] * n] * 3)
+    return [folded(why), *tables, beats]
 
 
 def after_back(n, tables):
     """The same of the way back."""
-    refusal, left = oracle.schedule_of_tree(n, tables, [7] * (2 * n))
-    return [[refusal, 0], *tables, left]
+    why, left = oracle.schedule_of_tree(n, tables, [7] * (2 * n))
+    return [folded(why), *tables, left]
 
 
 def tally(backs, calls):
@@ -305,34 +336,28 @@ def damage(text):
 
 
 def writing(kind, t, s, beats, room):
-    """What writing into so many bytes that are 7 answers (refusal, place and value), and the bytes left."""
-    known = kind in (packing.NUMBERED, packing.PACKED)
-    refusal, place = oracle.check(t, s, beats) if known else (10, 0)
-    record = [] if refusal else list(packing.record(kind, t, s, beats))
+    """What writing into so many bytes that are 7 answers (why, and the value), and the bytes left."""
+    why = oracle.check(t, s, beats) if kind in (packing.NUMBERED, packing.PACKED) else Why(10)
+    record = [] if why else list(packing.record(kind, t, s, beats))
     if len(record) > room:
-        refusal, record = 12, []
-    return ((refusal, place, len(record)), record + [7] * (room - len(record)))
+        why, record = Why(12), []
+    return why, len(record), record + [7] * (room - len(record))
 
 
 def write(kind, t, s, text, room):
-    (refusal, place, value), left = writing(int(kind), int(t), int(s), beats_of(text), int(room))
-    return f"{refused(refusal, place) if refusal else value} {text_of(left)}"
+    return with_answer(*writing(int(kind), int(t), int(s), beats_of(text), int(room)))
 
 
 def reading(data, room):
-    """What reading in so many places that are 7 answers (refusal, place, t, s, number and bytes consumed), and the
-    places left."""
-    line, consumed, _ = packing.line_of(bytes(data), 0) if room >= oracle.BEATS else (packing.refused(12), 0, False)
-    *numbers, last = line.split()
-    if numbers[0] == "refused":
-        return ((int(numbers[1]), int(last), 0, 0, 0, consumed), [7] * room)
-    beats = beats_of(last)
-    return ((0, 0, *map(int, numbers), consumed), beats + [7] * (room - len(beats)))
+    """What reading in so many places that are 7 answers (why; t, s, number and bytes consumed), and the places left."""
+    lent = room >= oracle.BEATS
+    why, (t, s, n, beats), consumed = packing.read(bytes(data)) if lent else (Why(12), packing.NOTHING, 0)
+    return why, [t, s, n, consumed], beats + [7] * (room - len(beats))
 
 
 def read_line(data, room):
-    (refusal, place, *said), left = reading(data, room)
-    return " ".join([refused(refusal, place) if refusal else "accepted", *map(str, said), text_of(left)])
+    why, said, left = reading(data, room)
+    return " ".join([said_of(why), *map(str, said), text_of(left)])
 
 
 def read(text, room):
@@ -349,10 +374,11 @@ def there_and_back(forms):
     """How many records of some forms, in each kind, say the form again, and the digest of both calls of each."""
     same, calls = 0, []
     for (t, s, beats), kind in itertools.product(forms, (packing.NUMBERED, packing.PACKED)):
-        written, record = writing(kind, t, s, beats, ROOM)
-        said, left = reading(record, PLACES)
-        same += said == (0, 0, t, s, oracle.number_of(t, s, beats), written[2]) and left[: t + s] == beats
-        calls += [written, record, said, left]
+        why, size, record = writing(kind, t, s, beats, ROOM)
+        verdict, said, left = reading(record, PLACES)
+        form = (ACCEPTED, [t, s, oracle.number_of(t, s, beats), size], beats)
+        same += (verdict, said, left[: t + s]) == form
+        calls += [folded(why), [size], record, folded(verdict), said, left]
     sure(same == 2 * len(forms), "a record does not say its form again")
     return f"{same} {digest(calls)}"
 
@@ -375,8 +401,8 @@ def changes(text):
     data = beats_of(text)
     others = (data[:at] + [value] + data[at + 1 :] for at in range(len(data)) for value in range(256))
     readings = [reading(other, PLACES) for other in others]
-    accepted = sum(1 for said, _ in readings if said[0] == 0)
-    return f"{accepted} {digest(itertools.chain(*readings))}"
+    accepted = sum(1 for why, *_ in readings if not why)
+    return f"{accepted} {digest(part for why, *parts in readings for part in (folded(why), *parts))}"
 
 
 KINDS = [
@@ -393,6 +419,7 @@ KINDS = [
     ("previous_changed", re.compile(r"previous_changed (\d+) (\d+) (\S+): (.*)"), step_back_changed),
     ("counts", re.compile(r"counts of (\d+): (.*)"), counts_of),
     ("lists", re.compile(r"lists of (\d+): (.*)"), lists_of),
+    ("off", re.compile(r"off (\d+) (\d+): (.*)"), off),
     ("count", re.compile(r"count (\d+) (\d+): (.*)"), count),
     ("check", re.compile(r"check (\d+) (\d+) (\S+): (.*)"), check),
     ("both", re.compile(r"both (\d+) (\d+): (.*)"), both),

@@ -145,8 +145,16 @@ GATE = {
     "gate/host/tests/one": f"#!/bin/sh\nenv | grep -E '^({'|'.join(OUTSIDE)})=' && exit 1\nexit 0\n",
 }
 
-LESS = f'#!/bin/sh\nPATH=/usr/bin:/bin\n"$0{RIGHT}" | sed 2d\n'  # a packing list that loses its second line
-SILENT = f'#!/bin/sh\nexec "$0{RIGHT}" "$@" 2>/dev/null\n'  # and one that tells no failure
+
+def listed_through(script):
+    """A packing list whose lines are edited before they are printed."""
+    return f"#!/bin/sh\nPATH=/usr/bin:/bin\n\"$0{RIGHT}\" | sed '{script}'\n"
+
+
+LESS = listed_through("2d")  # it loses its second line
+UNSIGNED = listed_through(r"s/ -\([0-9]\)/ \1/")  # it prints no sign
+NO_SURPLUS = listed_through("/^refused/s/ [^ ]*$//")  # it prints no third field
+SILENT = f'#!/bin/sh\nexec "$0{RIGHT}" "$@" 2>/dev/null\n'  # it tells no failure
 
 CLAIMS, VACUITY, SHAMS, REQUIRES = "docs/CLAIMS.md", "docs/VACUITY.md", "docs/SHAMS.md", "docs/REQUIRES.md"
 FIRST = "| claim | kind | where |\n|---|---|---|---|\n| D1a |"  # after the first id of a header
@@ -154,10 +162,12 @@ THEOREMS, CASES, BOUNDED = "crates/number/proofs/Theorems.antt", "crates/bounded
 TREE, TREES, LINES = "crates/tree/specs/Tree.antt", "crates/tree/proofs/Cases.antt", "crates/line/proofs/Cases.antt"
 EDIT = "accepted_has_a_place"
 SHAM, LOG = f"crates/refusal/must-fail/{EDIT}.edit", f"target/must-fail/refusal/{EDIT}/.log"
-HEADER, PAGE, ARCHIVE, README = "include/ghanveltri.h", "host/man/ghanveltri.3", "target/host/libghanveltri.a", "README.md"
+HEADER, ARCHIVE, README = "include/ghanveltri.h", "target/host/libghanveltri.a", "README.md"
+PAGE, LIST_PAGE, EXAMPLE = "host/man/ghanveltri.3", "host/man/packing_list.1", "host/example.c"
 COMMAND, PROGRAM = "target/host/packing_list", "target/bin/packing_list"
 LOOK, LOOKUP, STREAM = "| `lookup` | `look` |", "crates/lookup/src/lib.rt", "crates/stream/src/lib.rt"
 GROUND, WALK, ORACLE, PACKING = "crates/cases_ground/stdout", "crates/cases_walk/stdout", "host/oracle.py", "host/packing.py"
+VERIFY_CASES, INDEPENDENT, STDIO = "host/verify_cases.py", "host/independent.c", "bench/packing_stdio.c"
 COUNT, COUNTS = "crates/triangle/specs/Count.antt", "crates/triangle/src/table.rt"
 LARGEST = "LARGEST: u64 = "  # before the number that follows it in the table of counts
 TABLE_1, FIGURE = "Table 1 of source 000", "Figure 2.3 of source 001"
@@ -183,10 +193,10 @@ def kinds_gone():
             yield Break(f"no lines {kind!r}", f"crates/{program}/stdout", drop(f"{kind} ", lines), (program, repr(kind)))
 
 
-def lines_back_wrong():
-    """A wrong line of each kind that walks back."""
-    for kind in ("order_back", "round_back", "previous", "previous_changed", "run_back", "run_back_changed"):
-        yield Break(f"a wrong line {kind!r}", WALK, misspell(f"{kind} "), (f"{kind} ", "should say"), OPTIMIZED, (kind,))
+def lines_wrong(path, *kinds):
+    """A wrong line of each kind."""
+    for kind in kinds:
+        yield Break(f"a wrong line {kind!r}", path, misspell(f"{kind} "), (f"{kind} ", "should say"), OPTIMIZED, (kind,))
 
 
 def turned(says, *names):
@@ -194,6 +204,16 @@ def turned(says, *names):
     for name in names:
         back = name.replace("next", "previous").replace("run", "run_back")
         yield Break(f"{name} and {back} exchanged", ARCHIVE, exchange(f"gv_{name}", f"gv_{back}"), (says.format(name),))
+
+
+def off_the_other_way(path, ones, t, *says):
+    """A surplus of the other sign, in a file that has the ones and t by these words."""
+    return Break("a surplus of the other sign", path, swap(f"{ones} - {t}", f"{t} - {ones}"), says)
+
+
+def surplus_as_place(says):
+    """The surplus and the place of the check, exchanged in the archive."""
+    return Break("surplus and place exchanged", ARCHIVE, exchange("gv_check_surplus", "gv_check_place"), (says,))
 
 
 BREAKS = {
@@ -264,10 +284,16 @@ BREAKS = {
         Break("a row of Table 1 gone from the oracle", ORACLE, drop("    [1, 5, 14, 28, 42, 42],"), (ORACLE, TABLE_1)),
         Break("another number in Table 1", ORACLE, swap("[1, 5, 14, 28,", "[1, 5, 14, 29,"), (TABLE_1, "row 5"), OPTIMIZED),
         Break("another word in Figure 2.3", ORACLE, swap('"11001100 ', '"11001010 '), (FIGURE,), OPTIMIZED),
-        Break("a wrong line", GROUND, swap("check 2 2 1001: refused 5 2", "check 2 2 1001: refused 5 1"), ("check 2 2 1001",), OPTIMIZED),
+        Break("a wrong line", GROUND, swap("check 2 2 1001: refused 5 2 0", "check 2 2 1001: refused 5 1 0"), ("check 2 2 1001",), OPTIMIZED),
+        Break("a sign lost", GROUND, swap("check 3 1 1010: refused 6 0 -1", "check 3 1 1010: refused 6 0 1"), ("check 3 1 1010",), OPTIMIZED),
+        Break("a surplus lost", GROUND, swap("check 2 1 111: refused 6 0 1", "check 2 1 111: refused 6 0"), ("check 2 1 111",), OPTIMIZED),
+        off_the_other_way(ORACLE, "beats.count(1)", "t", "check 2 1 111", "should say 'refused 6 0 -1'"),
+        Break("another sign folded", VERIFY_CASES, swap("why.surplus < 0)", "why.surplus > 0)"), ("off 1 1", "should say"), {}, ("off",)),
+        Break("surpluses that cannot be", ORACLE, swap("s - more <= t + more", "True"), ("off 1 0", "these surpluses"), OPTIMIZED, ("off",)),
         Break("a line of no kind", GROUND, swap("count 2 3:", "cuont 2 3:"), ("'cuont'",)),
         Break("a stored output gone", WALK, gone, (WALK,)),
-        *lines_back_wrong(),
+        *lines_wrong(GROUND, "off"),
+        *lines_wrong(WALK, "order_back", "round_back", "previous", "previous_changed", "run_back", "run_back_changed"),
         *kinds_gone(),
     ],
     "table_as_generated": [
@@ -277,32 +303,46 @@ BREAKS = {
     "header_agrees": [
         Break("another constant", HEADER, swap("#define GV_RUN_TOO_LONG 13", "#define GV_RUN_TOO_LONG 14"), ("GV_RUN_TOO_LONG",)),
         Break("a function gone", HEADER, drop("uint64_t gv_version(void);"), ("gv_version",)),
+        Break("a surplus gone", HEADER, drop("int32_t gv_check_surplus("), ("gv_check_surplus is not in the header",)),
+        Break("a surplus without a sign", HEADER, swap("\nint32_t gv_number_s", "\nuint32_t gv_number_s"), ("gv_number_surplus of the header is",)),
+        Break("other words of a surplus", HEADER, swap("never 0 after that", "never 1 after that"), ("nothing holds the 1", "'never 0 ")),
         Break("the archive gone", ARCHIVE, gone, ("rt staticlib ghanveltri",)),
     ],
     "manual_agrees": [
         Break("a function gone from the page", PAGE, drop('.BI "uint64_t gv_version('), ("gv_version",)),
+        Break("a surplus gone from the page", PAGE, drop('.BI "int32_t gv_check_surplus('), ("gv_check_surplus is missing",)),
+        Break("no surplus in the example", LIST_PAGE, swap("\nrefused 7 0 0\n", "\nrefused 7 0\n"), ("packing_list.1: the example",)),
         Break("another number of a refusal", PAGE, swap('GV_RUN_TOO_LONG " (13)"', 'GV_RUN_TOO_LONG " (14)"'), ("GV_RUN_TOO_LONG",)),
     ],
     "shared_library_agrees": [
         Break("a function more in the header", HEADER, swap("gv_version(void);", "gv_version(void);\nint gv_more(void);"), ("gv_more",)),
+        Break("a surplus of another type", HEADER, swap("\nint32_t gv_check_s", "\nuint64_t gv_check_s"), ("by ctypes, gv_check_surplus(",)),
+        off_the_other_way(ORACLE, "beats.count(1)", "t", "by ctypes, gv_check_surplus(", "by ctypes, gv_number_surplus("),
     ],
     "functions_agree": [
         Break("two functions exchanged", ARCHIVE, exchange("gv_count_place", "gv_count_refusal"), ("gv_count_refusal",)),
         *turned("gv_{}(", "next", "next_changed", "run"),
         *turned("gv_run_back_changed(", "run_changed"),
+        surplus_as_place("gv_check_place("),
+        off_the_other_way(INDEPENDENT, "(int64_t)ones", "(int64_t)t", "an example's surplus differs"),
     ],
     "functions_programs_agree": [
         Break("two functions exchanged", ARCHIVE, exchange("gv_count_place", "gv_count_refusal"), ("count_refusal",)),
         *turned("{} by ", "next", "run_changed"),
+        surplus_as_place("check_place by "),
     ],
     "packing_list_agrees": [
         Break("a line lost", COMMAND, becomes(LESS), ("sample", "line 2")),
         Break("a line lost by the Rattle program", PROGRAM, becomes(LESS), ("sample", "line 2"), OPTIMIZED),
         Break("a line lost, and a right program named from outside", COMMAND, becomes(LESS), ("line 2",), {"GV_PACKING_LIST": PROGRAM}),
         Break("no command", COMMAND, gone, (COMMAND, "host/build")),
+        Break("a third field lost", COMMAND, becomes(NO_SURPLUS), ("sample", "line 3")),
+        Break("a sign lost", PROGRAM, becomes(UNSIGNED), ("line 2", "b'refused 6 0 -1' is right"), {}, ("miscounted",)),
+        Break("no sign worked out", PACKING, swap("{why.surplus}", "{abs(why.surplus)}"), ("miscounted: host/packing.py",), {}, ("miscounted",)),
     ],
     "packing_programs_agree": [
         Break("a line lost", PROGRAM, becomes(LESS), ("packing_list",)),
+        off_the_other_way(STDIO, "ones", "t", "packing_stdio does not write"),
     ],
     "faults_are_told": [
         Break("a failure not told", COMMAND, becomes(SILENT), ("stop_behind_a_9: ", "full_device: command, ")),
@@ -310,6 +350,7 @@ BREAKS = {
     "installed_example_runs": [
         Break("no command", COMMAND, gone, (COMMAND,)),
         Break("another line shown", README, swap("\n    4 steps back: 11010,", "\n    4 steps back: 11100,"), ("README.md does not show",)),
+        Break("a surplus shown otherwise", EXAMPLE, swap("-surplus);", "surplus);"), ("does not print what it should",)),
     ],
     "checks_can_fail": [
         Break("an assert", ORACLE, swap("    sure(place == 0, ", "    assert (place == 0, "), (ORACLE, "an assert")),

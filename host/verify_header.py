@@ -165,7 +165,7 @@ def largest_count():
 def changes(steps):
     """The changed beats of one step from all forms of small counts, on or back, by the rule of the manual."""
     some = [(t, s, oracle.form_of(t, s, n)) for t in range(6) for s in range(t + 1) for n in range(oracle.forms(t, s))]
-    *most, last = sorted({steps(t, s, form, 1)[2] for t, s, form in some})
+    *most, last = sorted({steps(t, s, form, 1)[1] for t, s, form in some})
     return f"{', '.join(map(str, most))} or {last}"
 
 
@@ -200,8 +200,11 @@ def held():
         "or 0 where there is none": "functions_agree",
         "0 after a refusal": "functions_agree",
         "and else 0": "functions_agree",
+        "never 0 after that refusal": "functions_agree",
+        "both 0 after GV_RUN_TOO_LONG": "functions_agree",
+        "not named here is 0": "functions_agree",
         "gv_count_place answers 0:": "functions_agree",
-        "Its place is 0": "there is no function that answers another",
+        "Its place and its surplus are 0": "there is no function that answers another",
         "even if the length is 0": "what a caller owes, of the empty schedule too",
         "neither 0 nor 1": "the manual, Refusal numbers, 4",
         "unused bits are not 0": "the manual, Refusal numbers, 11",

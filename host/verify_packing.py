@@ -39,7 +39,22 @@ SAMPLE = [
         "0C 00 01 00 01 01 00 00 00 00 00 00 00 00",
     )
 ]
-SAMPLE_OUTPUT = b"3 2 2 11010\n3 2 3 10101\nrefused 7 0\n1 1 0 10\n"
+SAMPLE_OUTPUT = b"3 2 2 11010\n3 2 3 10101\nrefused 7 0 0\n1 1 0 10\n"
+
+# Records of kind 2 that are refused 6, with the surplus of each: the manual's, and those at the ends of what can occur.
+MOST = oracle.LARGEST
+FULL = oracle.forms(MOST, MOST)
+FEWEST = packing.packed(MOST, 0, [1, 0] * (MOST // 2))
+MISCOUNTED = [
+    (packing.packed(2, 1, [1, 1, 1]), 1),
+    (packing.packed(3, 1, [1, 0, 1, 0]), -1),
+    (packing.packed(2, 0, [1, 0]), -1),
+    (packing.packed(MOST, 0, [1] * (MOST - 1) + [0]), -1),
+    (FEWEST, -(MOST // 2)),
+    (packing.packed(MOST, MOST - 1, [1] * (2 * MOST - 1)), MOST - 1),
+    (packing.packed(MOST, MOST, [1] * (MOST + 1) + [0] * (MOST - 1)), 1),
+    (packing.packed(MOST, MOST, [1] * (2 * MOST)), MOST),
+]
 
 
 def from_file(program, data):
@@ -176,6 +191,34 @@ def limits(verifier):
             verifier.verify(f"L = {length} of kind {kind}", SAMPLE[0] + packing.framed(body_of(kind, length)) + after, from_file, in_pieces)
 
 
+def surpluses():
+    """Every surplus that can occur, with every pair of counts: the ones first, and each zero as early as it can be."""
+    for t, s in allowed():
+        for more in oracle.surpluses(t, s):
+            ones, zeros = t + more, s - more
+            yield packing.packed(t, s, [1] * ones + [0] * zeros)
+            yield packing.packed(t, s, [1, 0] * zeros + [1] * (ones - zeros))
+
+
+def each_value(record):
+    """A record with each byte after its length set to each value."""
+    for at in range(2, len(record)):
+        for value in range(256):
+            yield record[:at] + bytes([value]) + record[at + 1 :]
+
+
+def miscounted(verifier):
+    """Records that are refused 6: whole, in pieces and damaged, each byte of it and cut at each."""
+    named = b"".join(record for record, _ in MISCOUNTED)
+    right = "".join(f"refused 6 0 {surplus}\n" for _, surplus in MISCOUNTED).encode()
+    verifier.verify("miscounted", named, from_file, in_pieces, bytewise, right=right)
+    verifier.verify("every surplus", b"".join(surpluses()), from_file, in_pieces)
+    for record, surplus in MISCOUNTED:
+        verifier.verify(f"surplus {surplus}, each byte", b"".join(each_value(record)), from_file, in_pieces)
+        for length in range(len(record)):
+            verifier.verify(f"surplus {surplus}, cut to {length}", named + record[:length])
+
+
 def lengths():
     for kind in (0, 1, 2, 3, 65535):
         for length in (*range(2, 40), *range(40, 1016, 61), *range(1016, 1021)):
@@ -265,8 +308,6 @@ def filler(length):
     return b"".join(made) + of_length(length)
 
 
-MOST = oracle.LARGEST
-FULL = oracle.forms(MOST, MOST)
 STRADDLERS = {
     "kind 1": packing.numbered(MOST, MOST, FULL - 1),
     "kind 2": packing.packed(MOST, MOST, oracle.form_of(MOST, MOST, FULL // 2)),
@@ -312,15 +353,14 @@ def lines_of_length(length):
 
 
 def output_ends(verifier):
-    """The longest line at each place around the end of a block of output."""
-    longest = STRADDLERS["kind 1"]
-    width = len(packing.output(longest))
-    for block in BLOCKS:
-        for start in range(-width - 2, 3):
+    """The longest line, and that of a refused record, at each place around the end of a block of output."""
+    for record, block in itertools.product((STRADDLERS["kind 1"], FEWEST), BLOCKS):
+        longest = len(packing.output(record))
+        for start in range(-longest - 2, 3):
             before = lines_of_length(block + start)
             if len(packing.output(before)) != block + start:
                 raise Difference(f"the lines before {block}{start:+} have another length")
-            verifier.verify(f"longest line from {block}{start:+}", before + longest + BEHIND)
+            verifier.verify(f"line of {longest} bytes from {block}{start:+}", before + record + BEHIND)
 
 
 def mixed(verifier):
@@ -329,7 +369,10 @@ def mixed(verifier):
     verifier.verify(f"mixed, --seed {verifier.seed}", data, from_file, in_pieces)
 
 
-PARTS = {part.__name__: part for part in (sample, cuts, limits, corners, block_ends, piece_ends, output_ends, mixed)}
+PARTS = {
+    part.__name__: part
+    for part in (sample, cuts, limits, miscounted, corners, block_ends, piece_ends, output_ends, mixed)
+}
 
 
 def arguments():

@@ -12,6 +12,7 @@ Prints each fault, and ends with status 1 if there is one.
 import contextlib
 import ctypes
 import errno
+import functools
 import os
 import pathlib
 import re
@@ -170,38 +171,38 @@ class Caller:
 
 
 def ask_counts(caller, t, s):
-    refusal, place, forms = oracle.count(t, s)
-    caller.call("gv_count_refusal", refusal, t, s)
-    caller.call("gv_count_place", place, t, s)
+    why, forms = oracle.count(t, s)
+    caller.call("gv_count_refusal", why.refusal, t, s)
+    caller.call("gv_count_place", why.place, t, s)
     caller.call("gv_count", forms, t, s)
 
 
 def ask_beats(caller, t, s, beats):
     """All that is asked of beats, be they a schedule or not."""
-    refusal, place, number = oracle.number(t, s, beats)
-    after = beats if refusal else oracle.successor(t, s, beats)
+    why, number = oracle.number(t, s, beats)
+    after = beats if why else oracle.successor(t, s, beats)
     for name in ("gv_check", "gv_number"):
-        caller.lend(f"{name}_refusal", refusal, t, s, beats)
-        caller.lend(f"{name}_place", place, t, s, beats)
+        for part, right in why._asdict().items():
+            caller.lend(f"{name}_{part}", right, t, s, beats)
     caller.lend("gv_number", number, t, s, beats)
     caller.lend("gv_next_changed", oracle.changed(beats, after), t, s, beats)
-    caller.lend("gv_next", refusal, t, s, beats, left=after)
-    _, _, changed, before = oracle.run_back(t, s, beats, 1)
+    caller.lend("gv_next", why.refusal, t, s, beats, left=after)
+    _, changed, before = oracle.run_back(t, s, beats, 1)
     caller.lend("gv_previous_changed", changed, t, s, beats)
-    caller.lend("gv_previous", refusal, t, s, beats, left=before)
+    caller.lend("gv_previous", why.refusal, t, s, beats, left=before)
 
 
 def ask_run(caller, t, s, beats, steps):
     """A run on and a run back."""
     for name, run in (("gv_run", oracle.run), ("gv_run_back", oracle.run_back)):
-        refusal, _, changed, left = run(t, s, beats, steps)
+        why, changed, left = run(t, s, beats, steps)
         caller.lend(f"{name}_changed", changed, t, s, beats, steps)
-        caller.lend(name, refusal, t, s, beats, steps, left=left)
+        caller.lend(name, why.refusal, t, s, beats, steps, left=left)
 
 
 def ask_form(caller, t, s, number, beats):
-    refusal, left = oracle.form(t, s, number, beats)
-    caller.form(refusal, t, s, number, beats, left)
+    why, left = oracle.form(t, s, number, beats)
+    caller.form(why.refusal, t, s, number, beats, left)
 
 
 def ask_circles(caller):
@@ -240,6 +241,14 @@ def ask_refused(caller):
         ask_run(caller, 2, 1, [1, 0, 1], steps)
     for number, length in ((4, 5), (5, 5), (TOP, 5), (4, 4), (4, 6), (5, 0)):
         ask_form(caller, 3, 2, number, [7] * length)
+
+
+def ask_miscounted(caller):
+    """Every surplus of small counts and of the largest, on both sides of 0."""
+    most = constants()["GV_MAX_TASKS"]
+    for t, s in ((2, 1), (3, 1), (2, 0), (5, 3), (most, 0), (most, most - 1), (most, most)):
+        for more in oracle.surpluses(t, s):
+            ask_beats(caller, t, s, [1] * (t + more) + [0] * (s - more))
 
 
 def ask_version(caller):
@@ -299,7 +308,7 @@ def opened_folder():
 def call_all(file):
     """The faults of all calls, and how many calls there were."""
     caller = Caller(loaded(file))
-    for ask in (ask_version, ask_circles, ask_largest, ask_refused, ask_listing):
+    for ask in (ask_version, ask_circles, ask_largest, ask_refused, ask_miscounted, ask_listing):
         ask(caller)
     return caller.faults, caller.calls
 
@@ -307,14 +316,23 @@ def call_all(file):
 # From C, by the commands of the manual.
 
 
+def turned_away(t, s, beats):
+    """The line of a sheet that host/example.c turns away."""
+    why = oracle.check(t, s, beats)
+    text = texts([why.refusal])[why.refusal]
+    place = f" at beat {why.place}" if why.place else ""
+    off = f", {abs(why.surplus)} {'missing' if why.surplus < 0 else 'too many'}" if why.surplus else ""
+    return f"Sheet {''.join(map(str, beats))}: refused {why.refusal}{place}: {text}{off}"
+
+
+@functools.cache
 def example_lines():
     """What host/example.c prints, worked out."""
     t, s, n = 3, 2, 2
-    refusal, place = oracle.check(2, 2, [1, 0, 0, 1])
     shipped = oracle.form_of(t, s, n)
     after = oracle.successor(t, s, shipped)
-    _, _, changed, on = oracle.run(t, s, after, 3)
-    _, _, changed_back, back = oracle.run_back(t, s, on, 4)
+    _, changed, on = oracle.run(t, s, after, 3)
+    _, changed_back, back = oracle.run_back(t, s, on, 4)
     shown = ["".join(map(str, beats)) for beats in (shipped, after, on, back)]
     return [
         f"Form requested: {t} tasks taken up, {s} set down, No. {n}",
@@ -324,7 +342,9 @@ def example_lines():
         f"Next form: {shown[1]}, {oracle.changed(shipped, after)} beats changed",
         f"3 steps on: {shown[2]}, {changed} beats changed",
         f"4 steps back: {shown[3]}, {changed_back} beats changed",
-        f"Sheet 1001: refused {refusal} at beat {place}: {texts([refusal])[refusal]}",
+        turned_away(2, 2, [1, 0, 0, 1]),
+        turned_away(2, 1, [1, 1, 1]),
+        turned_away(3, 1, [1, 0, 1, 0]),
     ]
 
 

@@ -13,9 +13,10 @@
  *   ends when its input does, and answers numbers of its own.
  * - It answers one number; gv_refusal_text alone answers a text. Of check, count and number each part has a
  *   function of its own: `_refusal` answers GV_ACCEPTED or the refusal, `_place` the beat at fault, or 0 where
- *   there is none, and gv_count and gv_number the value, 0 after a refusal. gv_form, gv_next, gv_previous,
- *   gv_run and gv_run_back answer GV_ACCEPTED or the refusal, and `_changed` the beats that a step or a run
- *   would change, 0 after a refusal.
+ *   there is none, gv_count and gv_number the value, 0 after a refusal, and `_surplus`, of check and number, the
+ *   ones minus t after GV_WRONG_TAKE_UPS, and else 0. gv_form, gv_next, gv_previous, gv_run and gv_run_back
+ *   answer GV_ACCEPTED or the refusal, and `_changed` the beats that a step or a run would change, 0 after a
+ *   refusal, which is that of the step or the run.
  * - A slice is a pointer and, right after it, its length in bytes. Nothing outside the slice is read or
  *   written, and a slice that is lent as const is only read.
  * - The caller owes a pointer that is valid for the length, and is not NULL even if the length is 0; slices
@@ -38,7 +39,7 @@ extern "C" {
 
 /* The version of this header. A new major version may ask callers to change. */
 #define GV_VERSION_MAJOR 1
-#define GV_VERSION_MINOR 2
+#define GV_VERSION_MINOR 3
 #define GV_VERSION_PATCH 0
 #define GV_VERSION (GV_VERSION_MAJOR * 1000000 + GV_VERSION_MINOR * 1000 + GV_VERSION_PATCH)
 
@@ -50,7 +51,8 @@ extern "C" {
  * The refusals. A number never changes its meaning; new ones follow the last. The functions below give those
  * from GV_TOO_MANY_TASKS to GV_NO_SUCH_NUMBER, and GV_RUN_TOO_LONG. The others are of parts of the library that
  * have no C function: tree tables (GV_NO_SUCH_TABLES), order records (GV_CUT_SHORT to GV_NO_ROOM) and sheets
- * (GV_NO_ROOM). A line of gv_packing_list names what its record is refused for. [R1] [R2]
+ * (GV_NO_ROOM). A line of gv_packing_list has the refusal, the place and the surplus of its record. A place or
+ * a surplus that is not named here is 0. [R1] [R2]
  */
 #define GV_ACCEPTED 0          /* no refusal */
 #define GV_TOO_MANY_TASKS 1    /* t is above GV_MAX_TASKS */
@@ -58,7 +60,7 @@ extern "C" {
 #define GV_WRONG_LENGTH 3      /* the slice is not t + s bytes long */
 #define GV_BAD_BEAT 4          /* a beat is neither 0 nor 1; the place is the first such beat */
 #define GV_EMPTY_HAND 5        /* a beat sets down with nothing in hand; the place is the first such beat */
-#define GV_WRONG_TAKE_UPS 6    /* the ones are not t */
+#define GV_WRONG_TAKE_UPS 6    /* the ones are not t; the surplus is the ones minus t */
 #define GV_NO_SUCH_NUMBER 7    /* the number is not below the count of forms */
 #define GV_NO_SUCH_TABLES 8    /* no schedule has these tree tables */
 #define GV_CUT_SHORT 9         /* a record is cut short, or says that it is longer than any */
@@ -91,10 +93,13 @@ const char *gv_refusal_text(uint64_t refusal);
  * GV_MORE_DOWN_THAN_UP, GV_WRONG_LENGTH, GV_BAD_BEAT, GV_EMPTY_HAND, GV_WRONG_TAKE_UPS. A bad beat goes
  * before an empty hand even if it comes later in the schedule.
  * gv_check_place answers the beat at fault after GV_BAD_BEAT and GV_EMPTY_HAND, and else 0.
- * In: t, s, beats. Writes nothing. [R4] [R5] [R9]
+ * gv_check_surplus answers the ones minus t after GV_WRONG_TAKE_UPS, and else 0. It is positive where ones are
+ * too many and negative where some are missing, never 0 after that refusal; at most s, at least half of s - t.
+ * In: t, s, beats. Writes nothing. [R4] [R5] [R9] [Q5]
  */
 uint64_t gv_check_refusal(uint64_t t, uint64_t s, const uint8_t *beats, size_t length);
 uint64_t gv_check_place(uint64_t t, uint64_t s, const uint8_t *beats, size_t length);
+int32_t gv_check_surplus(uint64_t t, uint64_t s, const uint8_t *beats, size_t length);
 
 /*
  * How many forms have the counts t, s?
@@ -110,19 +115,21 @@ uint64_t gv_count(uint64_t t, uint64_t s);
 
 /*
  * Which number has this form?
- * gv_number_refusal and gv_number_place answer what gv_check_refusal and gv_check_place answer.
+ * gv_number_refusal, gv_number_place and gv_number_surplus answer what gv_check_refusal, gv_check_place and
+ * gv_check_surplus answer.
  * gv_number answers the number, which is below gv_count(t, s), and 0 after a refusal. The form of t ones and
  * then s zeros has number 0 too, so ask for the refusal where there may be one.
- * In: t, s, beats. Writes nothing. [M1] [M2] [M3] [D2e] [D2f]
+ * In: t, s, beats. Writes nothing. [M1] [M2] [M3] [D2e] [D2f] [Q5]
  */
 uint64_t gv_number_refusal(uint64_t t, uint64_t s, const uint8_t *beats, size_t length);
 uint64_t gv_number_place(uint64_t t, uint64_t s, const uint8_t *beats, size_t length);
+int32_t gv_number_surplus(uint64_t t, uint64_t s, const uint8_t *beats, size_t length);
 uint64_t gv_number(uint64_t t, uint64_t s, const uint8_t *beats, size_t length);
 
 /*
  * Writes the form of a number.
  * Answers GV_ACCEPTED, or the first of these that holds: GV_TOO_MANY_TASKS, GV_MORE_DOWN_THAN_UP,
- * GV_NO_SUCH_NUMBER, GV_WRONG_LENGTH. Its place is 0.
+ * GV_NO_SUCH_NUMBER, GV_WRONG_LENGTH. Its place and its surplus are 0.
  * In: t, s, number. Out: the t + s bytes at `out`, which may hold anything before, hold the form; after a
  * refusal, what they held. [R14] [R16] [D2e] [D2f]
  */
@@ -130,7 +137,8 @@ uint64_t gv_form(uint64_t t, uint64_t s, uint64_t number, uint8_t *out, size_t l
 
 /*
  * Takes a form one step on.
- * gv_next answers what gv_check_refusal answers; the place of a refusal is gv_check_place's.
+ * gv_next answers what gv_check_refusal answers; the place of a refusal is gv_check_place's, and its surplus
+ * gv_check_surplus's.
  * gv_next_changed answers how many beats gv_next would change, 0, 2 or 4, and 0 after a refusal. It writes
  * nothing.
  * In: t, s, beats. Out, gv_next alone: beats hold the next form; after a refusal, what they held.
@@ -141,7 +149,8 @@ uint64_t gv_next_changed(uint64_t t, uint64_t s, const uint8_t *beats, size_t le
 
 /*
  * Takes a form one step back: to the one form of t, s whose next form it is.
- * gv_previous answers what gv_check_refusal answers; the place of a refusal is gv_check_place's.
+ * gv_previous answers what gv_check_refusal answers; the place of a refusal is gv_check_place's, and its
+ * surplus gv_check_surplus's.
  * gv_previous_changed answers how many beats gv_previous would change, 0, 2 or 4, and 0 after a refusal. It
  * writes nothing.
  * In: t, s, beats. Out, gv_previous alone: beats hold the previous form; after a refusal, what they held.
@@ -153,7 +162,7 @@ uint64_t gv_previous_changed(uint64_t t, uint64_t s, const uint8_t *beats, size_
 /*
  * Takes a form many steps on, round the circle again where there are more steps than forms.
  * gv_run answers what gv_check_refusal answers, and then GV_RUN_TOO_LONG; the place of a refusal is
- * gv_check_place's.
+ * gv_check_place's, and its surplus gv_check_surplus's, both 0 after GV_RUN_TOO_LONG.
  * gv_run_changed answers how many beats gv_run would change, added up over its steps, and 0 after a refusal.
  * It writes nothing.
  * In: t, s, beats, steps. Out, gv_run alone: beats hold the form that many steps on; after a refusal, what
@@ -166,7 +175,7 @@ uint64_t gv_run_changed(uint64_t t, uint64_t s, const uint8_t *beats, size_t len
  * Takes a form many steps back, round the circle again where there are more steps than forms. After gv_run of
  * as many steps it brings back what was lent, and changes as many beats.
  * gv_run_back answers what gv_check_refusal answers, and then GV_RUN_TOO_LONG; the place of a refusal is
- * gv_check_place's.
+ * gv_check_place's, and its surplus gv_check_surplus's, both 0 after GV_RUN_TOO_LONG.
  * gv_run_back_changed answers how many beats gv_run_back would change, added up over its steps, and 0 after a
  * refusal. It writes nothing.
  * In: t, s, beats, steps. Out, gv_run_back alone: beats hold the form that many steps back; after a refusal,

@@ -80,10 +80,11 @@ pub fn empty_hands() {
     ask(3, 3, &[1, 0, 1, 0, 0, 0]);
 }
 
-// Refusal 6, with a one too many and one too few, and schedules beside them.
+// Refusal 6, with a one too many and one too few, and schedules beside them. [Q7]
 pub fn wrong_take_ups() {
     ask(2, 1, &[1, 1, 1]);
     ask(3, 1, &[1, 0, 1, 0]);
+    ask(2, 0, &[1, 0]);
     ask(1, 1, &[1, 1]);
     ask(1, 1, &[1, 0]);
     ask(2, 2, &[1, 0, 1, 0]);
@@ -93,11 +94,8 @@ pub fn wrong_take_ups() {
 
 // As many beats as a schedule may have, and one more; the last and then the first beat at fault.
 pub fn limits() {
-    let up = [1u8; LARGEST as usize];
-    ask(LARGEST, 0, &up);
     let over = [1u8; SIDE];
     ask(LARGEST + 1, 0, &over);
-    ask(LARGEST, 1, &over);
     let mut full = [0u8; BEATS];
     show::raise(&mut full, LARGEST as usize);
     ask(LARGEST, LARGEST, &full);
@@ -109,4 +107,31 @@ pub fn limits() {
     ask(LARGEST, LARGEST, &full);
     full[BEATS - 1] = 0;
     ask(LARGEST, LARGEST, &full);
+}
+
+// Ones and zeros in turn.
+fn alternate(beats: &mut [u8]) {
+    for at in 0..beats.len() {
+        beats[at] = 1 - (at % 2) as u8;
+    }
+}
+
+// For t the largest count: all ones, which are lent; and ones and zeros in turn, the fewest ones that a schedule of
+// so many beats can have. [Q7]
+fn ends(s: u64, beats: &mut [u8]) {
+    ask(LARGEST, s, beats);
+    alternate(beats);
+    ask(LARGEST, s, beats);
+}
+
+// How far the ones can be off.
+pub fn extremes() {
+    let mut fewest = [1u8; LARGEST as usize];
+    ends(0, &mut fewest);
+    let mut few = [1u8; SIDE];
+    ends(1, &mut few);
+    let mut many = [1u8; BEATS - 1];
+    ends(LARGEST - 1, &mut many);
+    let mut most = [1u8; BEATS];
+    ends(LARGEST, &mut most);
 }

@@ -1,7 +1,8 @@
 // Runs the count and the check on the examples of the manual, on Table 1 of source 000 and on both
 // sides of every refusal that they can give. The file stdout says what it must print; each line of it
-// is worked out again by host/oracle.py, without this code. [A4] [A7] [N8] [O1c] [R9] [R10] [P8] [E2]
+// is worked out again by host/oracle.py, without this code. [A4] [A7] [N8] [O1c] [R9] [R10] [P8] [E2] [Q7]
 mod checks;
+mod offs;
 mod tables;
 
 fn main() {
@@ -14,4 +15,6 @@ fn main() {
     checks::empty_hands();
     checks::wrong_take_ups();
     checks::limits();
+    checks::extremes();
+    offs::lists();
 }

@@ -22,7 +22,7 @@ pub fn counts() {
 }
 
 // The bits of a number as beats, the lowest first.
-fn spell(word: u64, beats: &mut [u8]) {
+pub fn spell(word: u64, beats: &mut [u8]) {
     let mut rest = word;
     for i in 0..beats.len() {
         beats[i] = (rest % 2) as u8;

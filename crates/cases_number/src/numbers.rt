@@ -59,6 +59,7 @@ pub fn refusals() {
     ask(3, 2, &[1, 1, 0, 2, 0]);
     ask(2, 2, &[1, 0, 0, 1]);
     ask(2, 1, &[1, 1, 1]);
+    ask(3, 1, &[1, 0, 1, 0]);
 }
 
 // Each before the next.

@@ -27,24 +27,17 @@ fn counted(tally: Tally, good: bool, sum: u64) -> Tally {
     }
 }
 
-// The digest of one more number, as show::digest folds a beat.
-fn fold(before: u64, x: u64) -> u64 {
-    (before % 4294967291 * 31 + x % 4294967291) % 4294967291
-}
-
 // The digest of what writing answers and leaves.
 fn fold_writing(before: u64, a: Answer, out: &[u8]) -> u64 {
-    let v = a.verdict();
-    let sum = fold(fold(before, v.refusal()), v.place());
-    show::digest(fold(sum, a.value()), out)
+    let verdict = show::fold_verdict(before, a.verdict());
+    show::digest(show::fold(verdict, a.value()), out)
 }
 
 // The digest of what reading answers and leaves.
 fn fold_reading(before: u64, r: Reading, out: &[u8]) -> u64 {
-    let v = r.verdict();
-    let verdict = fold(fold(before, v.refusal()), v.place());
-    let counts = fold(fold(verdict, r.t()), r.s());
-    let sum = fold(fold(counts, r.number()), r.consumed());
+    let verdict = show::fold_verdict(before, r.verdict());
+    let counts = show::fold(show::fold(verdict, r.t()), r.s());
+    let sum = show::fold(show::fold(counts, r.number()), r.consumed());
     show::digest(sum, out)
 }
 

@@ -20,14 +20,9 @@ pub fn none() -> Tally {
     }
 }
 
-// The digest of one more number, as show::digest folds a beat.
-fn fold(before: u64, x: u64) -> u64 {
-    (before % 4294967291 * 31 + x % 4294967291) % 4294967291
-}
-
 // The digest of a verdict and three tables.
 fn fold_tables(before: u64, v: Verdict, left: &[u8], right: &[u8], parent: &[u8]) -> u64 {
-    let sum = fold(fold(before, v.refusal()), v.place());
+    let sum = show::fold_verdict(before, v);
     show::digest(show::digest(show::digest(sum, left), right), parent)
 }
 

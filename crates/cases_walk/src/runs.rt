@@ -91,6 +91,8 @@ pub fn refusals() {
     ask(3, 2, &mut [1, 1, 0, 2, 0]);
     ask(2, 2, &mut [1, 0, 0, 1]);
     ask(2, 1, &mut [1, 1, 1]);
+    ask(3, 1, &mut [1, 0, 1, 0]);
+    ask_run(3, 1, &mut [1, 0, 1, 0], 2);
     ask_run(2, 1, &mut [1, 1, 1], 0);
     ask_run(2, 1, &mut [1, 1, 1], 65536);
     ask_run(2, 1, &mut [1, 1, 0], 65536);

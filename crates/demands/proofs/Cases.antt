@@ -54,6 +54,7 @@ use Rattle.demands.proofs.Accepted.{accepted-counts, accepted-beats, ac
 use Rattle.demands.proofs.Demands.{demands}
 use Rattle.demands.specs.Backwards.{Backwards}
 use Rattle.demands.proofs.Backwards.{backwards}
+use Rattle.demands.specs.Surplus.{About, lent-to}
 use Rattle.demands.specs.Examples.{
   InOrder,
   Changing,
@@ -161,6 +162,14 @@ beats-1 = in-check
 beats-0 : BeatsOf (check 1 0 (1 ∷ [])) (0 ∷ []) → ⊥
 unfolding ones
 beats-0 p = omega (arith, accepted-beats [] ((1 ∷ []) ∷ []) of-check p checks-1 .taken)
+
+-- a check is about the beats that are lent to it, and a count about none
+about-lent : About (check 2 1 (1 ∷ 1 ∷ 1 ∷ [])) 2 (1 ∷ 1 ∷ 1 ∷ [])
+about-lent = lent-to of-check in-check
+
+about-nothing : About (count 2 1) 2 [] → ⊥
+unfolding ones
+about-nothing (lent-to k i) = omega (arith, accepted-beats (2 ∷ []) [] k i gives-2 .taken)
 
 owed-1 : Owed (check 1 0 (1 ∷ [])) (1 ∷ []) 1
 owed-1 = beats of-check in-check

@@ -4,6 +4,8 @@ pub mod Accepted
 pub mod Answered
 pub mod Demands
 pub mod Backwards
+pub mod Near
+pub mod Surplus
 pub mod Cases
 pub mod Shams
 pub mod ShamsBack

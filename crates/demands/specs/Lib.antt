@@ -2,3 +2,4 @@ pub mod Examples
 pub mod Calls
 pub mod Demands
 pub mod Backwards
+pub mod Surplus

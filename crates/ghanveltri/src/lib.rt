@@ -1,26 +1,26 @@
 // The library for a C host: the manual, "What we ship". Each function here is a C function on 64-bit
 // numbers and lent bytes, a slice being its pointer and then its length. A call answers one number: the
-// refusal, the place and the value of check, count and number are asked for by a call each; form, the
+// refusal, the place, the surplus and the value of check, count and number are asked for by a call each; form, the
 // steps and the runs, on and back, answer their refusal, and what a step or a run would change comes from
 // calls that write nothing. Nothing is kept from call to call. The contracts cite the definitions of the
 // crates below, each by an equation. [W3] [F4] [P13] [D1a] [P1]
 ghost use mathlib.Core.Path.{_≡_};
 ghost use Prim.Native.Nat.{_≤_};
 ghost use Rattle.form.specs.Answers.{formVerdict, formLeft};
-ghost use Rattle.refusal.specs.Answer.{refusal, place, verdict, value};
+ghost use Rattle.refusal.specs.Answer.{refusal, place, surplus, verdict, value};
 ghost use Rattle.counts.specs.Counts.{counting};
 ghost use Rattle.schedule.specs.Check.{checked};
 ghost use Rattle.circle.specs.Answers.{nextAnswer, nextLeft, runAnswer, runLeft};
 ghost use Rattle.circle_back.specs.Answers.{previousAnswer, previousLeft, runBackAnswer, runBackLeft};
 ghost use Rattle.number.specs.Answers.{numberAnswer};
 
-// The version, 1.2.0: major * 1000000 + minor * 1000 + patch.
-const VERSION: u64 = 1002000;
+// The version, 1.3.0: major * 1000000 + minor * 1000 + patch.
+const VERSION: u64 = 1003000;
 
 // The version of the library.
 #[no_mangle]
 pub extern "C" fn gv_version() -> u64
-    ensures { λ r. ⌜ r ≡ 1002000 ⌝ }
+    ensures { λ r. ⌜ r ≡ 1003000 ⌝ }
 {
     VERSION
 }
@@ -41,6 +41,15 @@ pub extern "C" fn gv_check_place(t: u64, s: u64, beats: &[u8]) -> u64
     ensures { λ r. ⌜ r ≡ place (checked t s (now (beats .entry))) ⌝ }
 {
     schedule::check(t, s, beats).place()
+}
+
+// How many ones there are beyond t, where that is the refusal; else 0.
+#[no_mangle]
+// [Q5]
+pub extern "C" fn gv_check_surplus(t: u64, s: u64, beats: &[u8]) -> i32
+    ensures { λ r. ⌜ r ≡ surplus (checked t s (now (beats .entry))) ⌝ }
+{
+    schedule::check(t, s, beats).surplus()
 }
 
 // Whether counts t, s have forms: 0, or the refusal, 1 or 2.
@@ -86,6 +95,15 @@ pub extern "C" fn gv_number_place(t: u64, s: u64, beats: &[u8]) -> u64
     ensures { λ r. ⌜ r ≡ place (verdict (numberAnswer t s (now (beats .entry)))) ⌝ }
 {
     gv_check_place(t, s, beats)
+}
+
+// The surplus that goes with that refusal: 0 but for 6.
+#[no_mangle]
+// [Q5]
+pub extern "C" fn gv_number_surplus(t: u64, s: u64, beats: &[u8]) -> i32
+    ensures { λ r. ⌜ r ≡ surplus (verdict (numberAnswer t s (now (beats .entry)))) ⌝ }
+{
+    gv_check_surplus(t, s, beats)
 }
 
 // The number of the lent schedule; 0 after a refusal.

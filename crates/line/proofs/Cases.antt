@@ -4,7 +4,8 @@ use mathlib.Core.List.{[], _∷_}
 use mathlib.Core.Path.{_≡_, refl}
 use Prim.Native.Nat.{zero, suc}
 use native.Mathlib.Omega.{arith}
-use Rattle.refusal.specs.declared.Refusal.the-variants.{EmptyHand, NoSuchNumber}
+use lib.IntN.{negsuc}
+use Rattle.refusal.specs.declared.Refusal.the-variants.{EmptyHand, WrongTakeUps, NoSuchNumber}
 use Rattle.text.specs.Decimal.{digits, decimal}
 use Rattle.line.specs.Line.{Beats, beatText, acceptedLine, refusedLine}
 
@@ -24,15 +25,23 @@ line-empty : acceptedLine 0 0 0 [] ≡ 48 ∷ 32 ∷ 48 ∷ 32 ∷ 48 ∷ 32 ∷
 unfolding decimal digits beatText
 line-empty = refl
 
--- "refused 7 0" and a line feed
-line-refused : refusedLine NoSuchNumber ≡ 114 ∷ 101 ∷ 102 ∷ 117 ∷ 115 ∷ 101 ∷ 100 ∷ 32 ∷ 55 ∷ 32 ∷ 48 ∷ 10 ∷ []
+-- "refused 7 0 0" and a line feed
+line-refused : refusedLine NoSuchNumber
+    ≡ 114 ∷ 101 ∷ 102 ∷ 117 ∷ 115 ∷ 101 ∷ 100 ∷ 32 ∷ 55 ∷ 32 ∷ 48 ∷ 32 ∷ 48 ∷ 10 ∷ []
 unfolding decimal digits
 line-refused = refl
 
--- "refused 5 2" and a line feed
-line-refused-at : refusedLine (EmptyHand 2) ≡ 114 ∷ 101 ∷ 102 ∷ 117 ∷ 115 ∷ 101 ∷ 100 ∷ 32 ∷ 53 ∷ 32 ∷ 50 ∷ 10 ∷ []
+-- "refused 5 2 0" and a line feed
+line-refused-at : refusedLine (EmptyHand 2)
+    ≡ 114 ∷ 101 ∷ 102 ∷ 117 ∷ 115 ∷ 101 ∷ 100 ∷ 32 ∷ 53 ∷ 32 ∷ 50 ∷ 32 ∷ 48 ∷ 10 ∷ []
 unfolding decimal digits
 line-refused-at = refl
+
+-- "refused 6 0 -1" and a line feed [Q6]
+line-refused-off : refusedLine (WrongTakeUps (negsuc 0))
+    ≡ 114 ∷ 101 ∷ 102 ∷ 117 ∷ 115 ∷ 101 ∷ 100 ∷ 32 ∷ 54 ∷ 32 ∷ 48 ∷ 32 ∷ 45 ∷ 49 ∷ 10 ∷ []
+unfolding decimal digits
+line-refused-off = refl
 
 -- beats, and a list with another number in it
 beats-10 : Beats (1 ∷ 0 ∷ [])

@@ -12,13 +12,14 @@ use mathlib.Core.Path.{_≡_, refl, _∙_, ap, ap₂, sym, subst}
 use Prim.Native.Nat.{ℕ, _+_, _≤_, _<_}
 use native.Mathlib.Numerals.{add-one}
 use native.Mathlib.Omega.{arith}
+use lib.IntN.{ℤ}
 use lib.ListN.{length, take, drop, set, getD, List·getD-map, length-map}
 use lib.Seq.{take-all}
 use lib.Seq.{paste, paste-suc}
-use Rattle.refusal.specs.Refusal.{refusalNumber, refusalPlace}
+use Rattle.refusal.specs.Refusal.{refusalNumber, refusalPlace, refusalSurplus}
 use Rattle.refusal.specs.declared.Refusal.{Refusal}
 use Rattle.text.proofs.Writing.{written-then}
-use Rattle.text.specs.Decimal.{decimal}
+use Rattle.text.specs.Decimal.{decimal, signed}
 use Rattle.line.specs.Line.{beatText, acceptedLine, refusedLine}
 use Rattle.text.specs.Written.{Written}
 
@@ -72,11 +73,13 @@ written-accepted t s n b {r = r} {v = v} {out = out} first second third fourth f
 abbrev pub word : List ℕ
 word = 114 ∷ 101 ∷ 102 ∷ 117 ∷ 115 ∷ 101 ∷ 100 ∷ 32 ∷ []
 
-pub written-refused : (why : Refusal) {number place : ℕ} → number ≡ refusalNumber why → place ≡ refusalPlace why
-    → {h i j r : ℕ} {v w x y out : List ℕ}
-    → Written 0 word v w h → Written h (decimal number ++ 32 ∷ []) w x i → Written i (decimal place) x y j
-    → Written j (10 ∷ []) y out r → Written 0 (refusedLine why) v out r
-written-refused why {number} {place} en ep {r = r} {v = v} {out = out} first second third fourth =
-    let three = written-then (omega arith) (written-then (omega arith) first second) third in
-    subst (λ (p : List ℕ). Written 0 p v out r) (simp append-assoc (rw (en, ep)))
-    (written-then (omega arith) three fourth)
+pub written-refused : (why : Refusal) {number place : ℕ} {off : ℤ}
+    → number ≡ refusalNumber why → place ≡ refusalPlace why → off ≡ refusalSurplus why
+    → {h i j k r : ℕ} {v w x y z out : List ℕ}
+    → Written 0 word v w h → Written h (decimal number ++ 32 ∷ []) w x i → Written i (decimal place ++ 32 ∷ []) x y j
+    → Written j (signed off) y z k → Written k (10 ∷ []) z out r → Written 0 (refusedLine why) v out r
+written-refused why en ep es {r = r} {v = v} {out = out} first second third fourth fifth =
+    let two = written-then (omega arith) first second in
+    let four = written-then (omega arith) (written-then (omega arith) two third) fourth in
+    subst (λ (p : List ℕ). Written 0 p v out r) (simp append-assoc (rw (en, ep, es)))
+    (written-then (omega arith) four fifth)

@@ -2,13 +2,14 @@
 --     Beats b          every beat is 0 or 1
 --     beatText b       the beats run together as digits; - for the empty schedule
 --     acceptedLine     t, s, the number and the beats, separated by one space; a line feed ends the line
---     refusedLine      the word refused, the refusal's number and its place, separated so; a line feed ends the line
+--     refusedLine      the word refused, the refusal's number, its place and its surplus, separated so; a line feed
+--                      ends the line [Q6]
 use mathlib.Core.List.{List, [], _∷_, _++_, map}
 use Prim.Native.Nat.{ℕ, _+_, _≤_, _<_}
 use lib.ListN.{length, getD}
 use Rattle.refusal.specs.declared.Refusal.{Refusal}
-use Rattle.refusal.specs.Refusal.{refusalNumber, refusalPlace}
-use Rattle.text.specs.Decimal.{decimal}
+use Rattle.refusal.specs.Refusal.{refusalNumber, refusalPlace, refusalSurplus}
+use Rattle.text.specs.Decimal.{decimal, signed}
 
 abbrev pub Beats : List ℕ → Type 0
 Beats b = (k : ℕ) → k < length b → getD b k 0 ≤ 1
@@ -24,4 +25,4 @@ acceptedLine t s n b = decimal t ++ 32 ∷ decimal s ++ 32 ∷ decimal n ++ 32 �
 abbrev pub refusedLine : Refusal → List ℕ
 refusedLine why =
     114 ∷ 101 ∷ 102 ∷ 117 ∷ 115 ∷ 101 ∷ 100 ∷ 32 ∷
-    decimal (refusalNumber why) ++ 32 ∷ decimal (refusalPlace why) ++ 10 ∷ []
+    decimal (refusalNumber why) ++ 32 ∷ decimal (refusalPlace why) ++ 32 ∷ signed (refusalSurplus why) ++ 10 ∷ []

@@ -5,9 +5,9 @@ ghost use lib.ListN.{length};
 ghost use Rattle.text.specs.Written.{Written};
 ghost use Rattle.line.specs.Line.{Beats, beatText, acceptedLine, refusedLine};
 use refusal::Refusal;
-use text::decimal;
 use text::field;
 use text::put;
+use text::signed;
 
 // Writes the beats as digits, or - where there are none, and answers the index after them.
 fn beat_text(beats: &[u8], out: &mut [u8], at: usize) -> usize
@@ -38,13 +38,15 @@ pub fn accepted(t: u64, s: u64, number: u64, beats: &[u8], out: &mut [u8]) -> us
     put(b'\n', out, past_beats)
 }
 
-// Writes the line of a refused record at the start of out, and answers its length.
+// Writes the line of a refused record at the start of out, and answers its length. The word and its space want 8
+// bytes, two numbers with their spaces 42, an integer 21 and the line feed 1. [Q6]
 pub fn refused(why: Refusal, out: &mut [u8]) -> usize
-    requires { ⌜ 64 ≤ length (now out) ⌝ }
+    requires { ⌜ 72 ≤ length (now out) ⌝ }
     ensures { λ r. ⌜ Written 0 (refusedLine why) (now (out .entry)) (now (out .exit)) r ⌝ }
 {
     let past_word = bytes::copy(b"refused ", out);
     let past_number = field(why.number(), out, past_word);
-    let past_place = decimal(why.place(), out, past_number);
-    put(b'\n', out, past_place)
+    let past_place = field(why.place(), out, past_number);
+    let past_surplus = signed(why.surplus(), out, past_place);
+    put(b'\n', out, past_surplus)
 }

@@ -36,11 +36,17 @@ unfolding valueOf tabulate N digits decimal beatText every firstFrom ones zeros 
     next steps changed
 second = refl
 
--- refused 7 0 [E4]
+-- refused 7 0 0 [E4]
 third : lineOf (12 ∷ 0 ∷ 1 ∷ 0 ∷ 3 ∷ 2 ∷ 5 ∷ 0 ∷ 0 ∷ 0 ∷ 0 ∷ 0 ∷ 0 ∷ 0 ∷ [])
-    ≡ 114 ∷ 101 ∷ 102 ∷ 117 ∷ 115 ∷ 101 ∷ 100 ∷ 32 ∷ 55 ∷ 32 ∷ 48 ∷ 10 ∷ []
+    ≡ 114 ∷ 101 ∷ 102 ∷ 117 ∷ 115 ∷ 101 ∷ 100 ∷ 32 ∷ 55 ∷ 32 ∷ 48 ∷ 32 ∷ 48 ∷ 10 ∷ []
 unfolding valueOf N digits decimal
 third = refl
+
+-- refused 6 0 -1: kind 2, with 1010 for (3,1) [Q6]
+one-missing : lineOf (5 ∷ 0 ∷ 2 ∷ 0 ∷ 3 ∷ 1 ∷ 160 ∷ [])
+    ≡ 114 ∷ 101 ∷ 102 ∷ 117 ∷ 115 ∷ 101 ∷ 100 ∷ 32 ∷ 54 ∷ 32 ∷ 48 ∷ 32 ∷ 45 ∷ 49 ∷ 10 ∷ []
+unfolding valueOf tabulate N digits decimal every firstFrom ones zeros
+one-missing = refl
 
 -- 1 1 0 10 [E4]
 fourth : lineOf (12 ∷ 0 ∷ 1 ∷ 0 ∷ 1 ∷ 1 ∷ 0 ∷ 0 ∷ 0 ∷ 0 ∷ 0 ∷ 0 ∷ 0 ∷ 0 ∷ [])
@@ -66,7 +72,7 @@ abbrev lines : List ℕ
 lines =
     51 ∷ 32 ∷ 50 ∷ 32 ∷ 50 ∷ 32 ∷ 49 ∷ 49 ∷ 48 ∷ 49 ∷ 48 ∷ 10 ∷
     51 ∷ 32 ∷ 50 ∷ 32 ∷ 51 ∷ 32 ∷ 49 ∷ 48 ∷ 49 ∷ 48 ∷ 49 ∷ 10 ∷
-    114 ∷ 101 ∷ 102 ∷ 117 ∷ 115 ∷ 101 ∷ 100 ∷ 32 ∷ 55 ∷ 32 ∷ 48 ∷ 10 ∷
+    114 ∷ 101 ∷ 102 ∷ 117 ∷ 115 ∷ 101 ∷ 100 ∷ 32 ∷ 55 ∷ 32 ∷ 48 ∷ 32 ∷ 48 ∷ 10 ∷
     49 ∷ 32 ∷ 49 ∷ 32 ∷ 48 ∷ 32 ∷ 49 ∷ 48 ∷ 10 ∷ []
 
 -- [E4] [E14]
@@ -75,9 +81,9 @@ unfolding listFrom valueOf tabulate N digits decimal beatText every firstFrom on
     movesNext next steps changed
 whole-list = refl
 
--- with a byte after them that is no record: refused 9 0, and the list ends [E14]
+-- with a byte after them that is no record: refused 9 0 0, and the list ends [E14]
 cut-list : packingList (orders ++ 12 ∷ [])
-    ≡ lines ++ 114 ∷ 101 ∷ 102 ∷ 117 ∷ 115 ∷ 101 ∷ 100 ∷ 32 ∷ 57 ∷ 32 ∷ 48 ∷ 10 ∷ []
+    ≡ lines ++ 114 ∷ 101 ∷ 102 ∷ 117 ∷ 115 ∷ 101 ∷ 100 ∷ 32 ∷ 57 ∷ 32 ∷ 48 ∷ 32 ∷ 48 ∷ 10 ∷ []
 unfolding listFrom valueOf tabulate N digits decimal beatText every firstFrom ones zeros isSchedule shift found has01
     movesNext next steps changed
 cut-list = refl
@@ -114,7 +120,7 @@ turned-at-the-end = record {
 turned-out-of-the-buffer : Turned [] [] begun [] (after-the-end 1) → ⊥
 turned-out-of-the-buffer p = omega (arith, p .inside .held)
 
--- the line after a verdict: "1 1 0 10", and "refused 7 0"
+-- the line after a verdict: "1 1 0 10", and "refused 7 0 0"
 text-taken : text (5 ∷ 0 ∷ 2 ∷ 0 ∷ 1 ∷ 1 ∷ 128 ∷ []) Verdict.Accepted
     ≡ 49 ∷ 32 ∷ 49 ∷ 32 ∷ 48 ∷ 32 ∷ 49 ∷ 48 ∷ 10 ∷ []
 unfolding valueOf tabulate N digits decimal beatText every firstFrom ones zeros isSchedule shift found has01 movesNext
@@ -122,6 +128,6 @@ unfolding valueOf tabulate N digits decimal beatText every firstFrom ones zeros 
 text-taken = refl
 
 text-refused : text [] (Verdict.Refused NoSuchNumber)
-    ≡ 114 ∷ 101 ∷ 102 ∷ 117 ∷ 115 ∷ 101 ∷ 100 ∷ 32 ∷ 55 ∷ 32 ∷ 48 ∷ 10 ∷ []
+    ≡ 114 ∷ 101 ∷ 102 ∷ 117 ∷ 115 ∷ 101 ∷ 100 ∷ 32 ∷ 55 ∷ 32 ∷ 48 ∷ 32 ∷ 48 ∷ 10 ∷ []
 unfolding digits decimal
 text-refused = refl

@@ -2,7 +2,7 @@
 -- over and where a list ends are in specs/Stream of the crate `stream`.
 --     text             the line after a verdict
 --     lineOf           the line of the record that a slice starts with: t, s, number and beats, or "refused", the
---                      refusal's number and the place [E4]
+--                      refusal's number, the place and the surplus [E4]
 --     widest           the bytes that every line fits into
 --     packingList      the whole list of an input [E14]
 --     Buffers          the buffers are large enough: for any record, and for the beats of any schedule

@@ -4,6 +4,7 @@ use mathlib.Core.Bool.{true, false}
 use mathlib.Core.List.{List, [], _∷_}
 use mathlib.Core.Path.{_≡_, refl}
 use Prim.Native.Nat.{ℕ, _+_}
+use lib.IntN.{pos}
 use lib.ListN.{replicate}
 use Rattle.bounded.specs.Bounded.{every, firstFrom}
 use Rattle.refusal.specs.declared.Refusal.the-variants.{
@@ -326,7 +327,7 @@ bare : judge (readRows mostBeats (5 ∷ 0 ∷ 2 ∷ 0 ∷ 3 ∷ 2 ∷ 160 ∷ []
 unfolding valueOf tabulate firstFrom ones zeros
 bare = refl
 
-one-more : judge (readRows mostBeats (5 ∷ 0 ∷ 2 ∷ 0 ∷ 3 ∷ 2 ∷ 232 ∷ [])) ≡ Verdict.Refused WrongTakeUps
+one-more : judge (readRows mostBeats (5 ∷ 0 ∷ 2 ∷ 0 ∷ 3 ∷ 2 ∷ 232 ∷ [])) ≡ Verdict.Refused (WrongTakeUps (pos 1))
 unfolding valueOf tabulate firstFrom ones zeros
 one-more = refl
 

@@ -1,6 +1,7 @@
 // What reading a record answers: the manual, "Order record" and "Refusal numbers". The contracts cite
 // specs/Parts. [P1]
 ghost use mathlib.Core.Path.{_≡_};
+ghost use Rattle.refusal.specs.Answer.{surplus};
 ghost use Rattle.record.specs.Parts as said;
 use refusal::Refusal;
 use refusal::Verdict;
@@ -28,6 +29,13 @@ impl Reading {
             Reading::Accepted(_) => Verdict::Accepted,
             Reading::Refused(why, _) => Verdict::Refused(why),
         }
+    }
+
+    // [Q3]
+    pub fn surplus(self) -> i32
+        ensures { λ r. ⌜ r ≡ surplus (said.verdict self) ⌝ }
+    {
+        self.verdict().surplus()
     }
 
     // [R22]

@@ -1,9 +1,10 @@
--- The definitions of specs/ on small inputs: for each one value and another. That number and place tell every two
--- refusals apart is `same-refusal` in Theorems. Assumes nothing.
+-- The definitions of specs/ on small inputs: for each one value and another. That number, place and surplus tell every
+-- two refusals apart is `same-refusal` in Theorems. Assumes nothing.
 use mathlib.Core.Bool.{true, false}
 use mathlib.Core.List.{List, [], _∷_}
 use mathlib.Core.Path.{_≡_, refl, _∙_, ap, sym}
 use native.Mathlib.Omega.{arith}
+use lib.IntN.{pos, negsuc}
 use Rattle.refusal.specs.declared.Answer.{Answer}
 use Rattle.refusal.specs.declared.Refusal.the-variants.{
   TooManyTasks,
@@ -11,11 +12,12 @@ use Rattle.refusal.specs.declared.Refusal.the-variants.{
   WrongLength,
   BadBeat,
   EmptyHand,
+  WrongTakeUps,
   RunTooLong,
 }
 use Rattle.refusal.specs.declared.Verdict.{Verdict}
-use Rattle.refusal.specs.Refusal.{refusalNumber, refusalPlace}
-use Rattle.refusal.specs.Answer.{refusal, place, verdict, value, answer, left}
+use Rattle.refusal.specs.Refusal.{refusalNumber, refusalPlace, refusalSurplus}
+use Rattle.refusal.specs.Answer.{refusal, place, surplus, verdict, value, answer, left}
 use Rattle.refusal.specs.Rows.{Row, _⇒_, judge, test}
 use Rattle.refusal.proofs.Theorems.{Given, refused-given, given-refused}
 
@@ -32,6 +34,13 @@ place-3 = refl
 no-place : refusalPlace WrongLength ≡ 0
 no-place = refl
 
+-- two ones missing, and a refusal that says nothing of the ones
+surplus-missing : refusalSurplus (WrongTakeUps (negsuc 1)) ≡ negsuc 1
+surplus-missing = refl
+
+no-surplus : refusalSurplus (BadBeat 3) ≡ pos 0
+no-surplus = refl
+
 -- a verdict as numbers
 accepted-refusal : refusal Verdict.Accepted ≡ 0
 accepted-refusal = refl
@@ -44,6 +53,12 @@ accepted-place = refl
 
 refused-place : place (Verdict.Refused (EmptyHand 2)) ≡ 2
 refused-place = refl
+
+accepted-surplus : surplus Verdict.Accepted ≡ pos 0
+accepted-surplus = refl
+
+refused-surplus : surplus (Verdict.Refused (WrongTakeUps (pos 1))) ≡ pos 1
+refused-surplus = refl
 
 -- the parts of an answer, and the answer from its parts: a refused call has no value
 accepted-verdict : verdict (Answer.Value 7) ≡ Verdict.Accepted

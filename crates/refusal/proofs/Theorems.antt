@@ -5,11 +5,14 @@
 --     refused-number      a refusal's number is 1 to 13, so 0 is left for an accepted call [R2]
 --     accepted-zero       a verdict that answers 0 accepts; that one which accepts answers 0 is
 --                         `accepted-refusal` of Cases [R8]
---     same-refusal        number and place say which refusal it is [R2]
+--     same-refusal        number, place and surplus say which refusal it is [R2]
+--     Six, six-given      where every row that refuses 6 has a surplus of which P holds, so has the verdict
+--     sixless, sixless-all     an order without such a row, which a test tells
+--     surplus-else        a verdict that does not answer 6 has the surplus 0 [Q2]
 --     verdict-answer      an answer has the verdict that it was made from
 --     answer-refused, answer-value     what an answer says of the verdict that it was made from
 -- Assumes nothing.
-use mathlib.Core.Bool.{true, false, true≢false}
+use mathlib.Core.Bool.{Bool, true, false, not, _&&_, true≢false, and-eq-true-iff}
 use mathlib.Core.List.{
   List,
   [],
@@ -25,6 +28,9 @@ use mathlib.Core.Logic.{⊎-elim}
 use mathlib.Core.Path.{_≡_, refl, _∙_, ap, ap₂, sym}
 use Prim.Native.Nat.{ℕ, _≤_}
 use native.Mathlib.Omega.{arith}
+use borrow.Author.Tests.{eq-eqb}
+use lib.Dec.{eqb}
+use lib.IntN.{ℤ, pos}
 use lib.ListN.{getD}
 use Rattle.refusal.specs.declared.Answer.{Answer}
 use Rattle.refusal.specs.declared.Refusal.{Refusal}
@@ -44,9 +50,10 @@ use Rattle.refusal.specs.declared.Refusal.the-variants.{
   RunTooLong,
 }
 use Rattle.refusal.specs.declared.Verdict.{Verdict}
-use Rattle.refusal.specs.Refusal.{refusalNumber, refusalPlace}
-use Rattle.refusal.specs.Answer.{refusal, verdict, answer}
+use Rattle.refusal.specs.Refusal.{refusalNumber, refusalPlace, refusalSurplus}
+use Rattle.refusal.specs.Answer.{refusal, surplus, verdict, answer}
 use Rattle.refusal.specs.Rows.{Row, _⇒_, judge, test}
+use Rattle.refusal.proofs.Rows.{All, given}
 
 pub record Given (l : List Row) (why : Refusal) : Type 0 where
   pub front : List Row
@@ -93,37 +100,71 @@ none-accepted [] f = refl
 none-accepted ((true ⇒ first) ∷ l) f = absurd (true≢false (f (true ⇒ first) (List·Memᴰ·head refl)))
 none-accepted ((false ⇒ first) ∷ l) f = none-accepted l (λ r m. f r (List·Memᴰ·tail m))
 
--- the refusal that a number and a place name, by the rows of the table in their order
-named : ℕ → ℕ → Refusal
-named n at =
+-- the refusal that a number, a place and a surplus name, by the rows of the table in their order
+named : ℕ → ℕ → ℤ → Refusal
+named n at off =
     getD
-    (TooManyTasks ∷ TooManyTasks ∷ MoreDownThanUp ∷ WrongLength ∷ BadBeat at ∷ EmptyHand at ∷ WrongTakeUps ∷
+    (TooManyTasks ∷ TooManyTasks ∷ MoreDownThanUp ∷ WrongLength ∷ BadBeat at ∷ EmptyHand at ∷ WrongTakeUps off ∷
     NoSuchNumber ∷ NoSuchTables ∷ CutShort ∷ UnknownKind ∷ WrongSize ∷ NoRoom ∷ RunTooLong ∷ [])
     n
     TooManyTasks
 
 named-back : (why : Refusal)
-    → (named (refusalNumber why) (refusalPlace why) ≡ why) × (1 ≤ refusalNumber why) × (refusalNumber why ≤ 13)
+    → (named (refusalNumber why) (refusalPlace why) (refusalSurplus why) ≡ why)
+    × (1 ≤ refusalNumber why) × (refusalNumber why ≤ 13)
+    × ((refusalNumber why ≡ 6 → ⊥) → refusalSurplus why ≡ pos 0)
 unfolding named
-named-back TooManyTasks = (refl, omega arith, omega arith)
-named-back MoreDownThanUp = (refl, omega arith, omega arith)
-named-back WrongLength = (refl, omega arith, omega arith)
-named-back (BadBeat at) = (refl, omega arith, omega arith)
-named-back (EmptyHand at) = (refl, omega arith, omega arith)
-named-back WrongTakeUps = (refl, omega arith, omega arith)
-named-back NoSuchNumber = (refl, omega arith, omega arith)
-named-back NoSuchTables = (refl, omega arith, omega arith)
-named-back CutShort = (refl, omega arith, omega arith)
-named-back UnknownKind = (refl, omega arith, omega arith)
-named-back WrongSize = (refl, omega arith, omega arith)
-named-back NoRoom = (refl, omega arith, omega arith)
-named-back RunTooLong = (refl, omega arith, omega arith)
+named-back TooManyTasks = (refl, omega arith, omega arith, λ other. refl)
+named-back MoreDownThanUp = (refl, omega arith, omega arith, λ other. refl)
+named-back WrongLength = (refl, omega arith, omega arith, λ other. refl)
+named-back (BadBeat at) = (refl, omega arith, omega arith, λ other. refl)
+named-back (EmptyHand at) = (refl, omega arith, omega arith, λ other. refl)
+named-back (WrongTakeUps off) = (refl, omega arith, omega arith, λ other. absurd (other refl))
+named-back NoSuchNumber = (refl, omega arith, omega arith, λ other. refl)
+named-back NoSuchTables = (refl, omega arith, omega arith, λ other. refl)
+named-back CutShort = (refl, omega arith, omega arith, λ other. refl)
+named-back UnknownKind = (refl, omega arith, omega arith, λ other. refl)
+named-back WrongSize = (refl, omega arith, omega arith, λ other. refl)
+named-back NoRoom = (refl, omega arith, omega arith, λ other. refl)
+named-back RunTooLong = (refl, omega arith, omega arith, λ other. refl)
 
 pub refused-number : (why : Refusal) → (1 ≤ refusalNumber why) × (refusalNumber why ≤ 13)
 refused-number why = (named-back why .1, named-back why .2)
 
-pub same-refusal : (p q : Refusal) → refusalNumber p ≡ refusalNumber q → refusalPlace p ≡ refusalPlace q → p ≡ q
-same-refusal p q n a = sym (named-back p .0) ∙ ap₂ named n a ∙ named-back q .0
+pub same-refusal : (p q : Refusal) → refusalNumber p ≡ refusalNumber q → refusalPlace p ≡ refusalPlace q
+    → refusalSurplus p ≡ refusalSurplus q → p ≡ q
+same-refusal p q n a z =
+    sym (named-back p .0)
+    ∙ ap (named (refusalNumber p) (refusalPlace p)) z
+    ∙ ap₂ (λ (k at : ℕ). named k at (refusalSurplus q)) n a
+    ∙ named-back q .0
+
+abbrev pub Six : (ℤ → Type 0) → Refusal → Type 0
+Six P why = refusalNumber why ≡ 6 → P (refusalSurplus why)
+
+pub six-given : (P : ℤ → Type 0) (rows : List Row) → All (Six P) rows → refusal (judge rows) ≡ 6
+    → P (surplus (judge rows))
+six-given P rows a = by (judge rows) refl
+  where
+    by : (v : Verdict) → judge rows ≡ v → refusal v ≡ 6 → P (surplus v)
+    by Verdict.Accepted e six = absurd (omega arith)
+    by (Verdict.Refused why) e six = given (Six P) rows a e six
+
+abbrev pub sixless : List Row → Bool
+sixless [] = true
+sixless ((holds ⇒ why) ∷ rows) = not (eqb (refusalNumber why) 6) && sixless rows
+
+pub sixless-all : (P : ℤ → Type 0) (rows : List Row) → sixless rows ≡ true → All (Six P) rows
+sixless-all P [] e = tt
+sixless-all P ((holds ⇒ why) ∷ rows) e =
+    let both = and-eq-true-iff (not (eqb (refusalNumber why) 6)) (sixless rows) .0 e in
+    let other : refusalNumber why ≡ 6 → ⊥ =
+    λ six. true≢false (sym (both .0) ∙ ap not (eq-eqb (refusalNumber why) 6 six)) in
+    (λ so six. absurd (other six), sixless-all P rows (both .1))
+
+pub surplus-else : (v : Verdict) → (refusal v ≡ 6 → ⊥) → surplus v ≡ pos 0
+surplus-else Verdict.Accepted other = refl
+surplus-else (Verdict.Refused why) other = named-back why .3 other
 
 pub accepted-zero : (v : Verdict) → refusal v ≡ 0 → v ≡ Verdict.Accepted
 accepted-zero Verdict.Accepted e = refl

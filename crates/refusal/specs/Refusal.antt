@@ -2,7 +2,9 @@
 --     refusalNumber     the number of a refusal's row [R1] [F5]
 --     refusalPlace      the place that goes with it: the beat that the case names, and 0 where the table's place is 0
 --                       [R1] [F5]
+--     refusalSurplus    the surplus of ones that goes with it: what 6 says, and 0 for every other [Q2] [R1] [F5]
 use Prim.Native.Nat.{ℕ}
+use lib.IntN.{ℤ, pos}
 use Rattle.refusal.specs.declared.Refusal.{Refusal}
 use Rattle.refusal.specs.declared.Refusal.the-variants.{
   TooManyTasks,
@@ -26,7 +28,7 @@ refusalNumber MoreDownThanUp = 2
 refusalNumber WrongLength = 3
 refusalNumber (BadBeat at) = 4
 refusalNumber (EmptyHand at) = 5
-refusalNumber WrongTakeUps = 6
+refusalNumber (WrongTakeUps surplus) = 6
 refusalNumber NoSuchNumber = 7
 refusalNumber NoSuchTables = 8
 refusalNumber CutShort = 9
@@ -41,7 +43,7 @@ refusalPlace MoreDownThanUp = 0
 refusalPlace WrongLength = 0
 refusalPlace (BadBeat at) = at
 refusalPlace (EmptyHand at) = at
-refusalPlace WrongTakeUps = 0
+refusalPlace (WrongTakeUps surplus) = 0
 refusalPlace NoSuchNumber = 0
 refusalPlace NoSuchTables = 0
 refusalPlace CutShort = 0
@@ -49,3 +51,18 @@ refusalPlace UnknownKind = 0
 refusalPlace WrongSize = 0
 refusalPlace NoRoom = 0
 refusalPlace RunTooLong = 0
+
+abbrev pub refusalSurplus : Refusal → ℤ
+refusalSurplus TooManyTasks = pos 0
+refusalSurplus MoreDownThanUp = pos 0
+refusalSurplus WrongLength = pos 0
+refusalSurplus (BadBeat at) = pos 0
+refusalSurplus (EmptyHand at) = pos 0
+refusalSurplus (WrongTakeUps surplus) = surplus
+refusalSurplus NoSuchNumber = pos 0
+refusalSurplus NoSuchTables = pos 0
+refusalSurplus CutShort = pos 0
+refusalSurplus UnknownKind = pos 0
+refusalSurplus WrongSize = pos 0
+refusalSurplus NoRoom = pos 0
+refusalSurplus RunTooLong = pos 0

@@ -3,10 +3,11 @@
 // of the library that can refuse answers one of the three, or to a C host its number, and passes a refusal
 // on as it got it. The contracts cite specs/Refusal and specs/Answer. [P1] [P13]
 ghost use mathlib.Core.Path.{_≡_};
-ghost use Rattle.refusal.specs.Refusal.{refusalNumber, refusalPlace};
+ghost use Rattle.refusal.specs.Refusal.{refusalNumber, refusalPlace, refusalSurplus};
 ghost use Rattle.refusal.specs.Answer as answer;
 
-// Why a call was refused. A case that holds a number names the beat at fault, counted from 0. [R1]
+// Why a call was refused. A case that holds a number names the beat at fault, counted from 0; but 6 holds how
+// many ones there are beyond those that were named, below 0 where some are missing. [R1] [Q1] [F7]
 pub enum Refusal {
     // 1: more tasks than a schedule may have
     TooManyTasks,
@@ -19,7 +20,7 @@ pub enum Refusal {
     // 5: a set-down with nothing in hand, the first one
     EmptyHand(u64),
     // 6: the ones are not as many as were named
-    WrongTakeUps,
+    WrongTakeUps(i32),
     // 7: a number beyond the last form
     NoSuchNumber,
     // 8: tree tables that no schedule has
@@ -47,7 +48,7 @@ impl Refusal {
             Refusal::WrongLength => 3,
             Refusal::BadBeat(_) => 4,
             Refusal::EmptyHand(_) => 5,
-            Refusal::WrongTakeUps => 6,
+            Refusal::WrongTakeUps(_) => 6,
             Refusal::NoSuchNumber => 7,
             Refusal::NoSuchTables => 8,
             Refusal::CutShort => 9,
@@ -68,7 +69,7 @@ impl Refusal {
             Refusal::WrongLength => 0,
             Refusal::BadBeat(at) => at,
             Refusal::EmptyHand(at) => at,
-            Refusal::WrongTakeUps => 0,
+            Refusal::WrongTakeUps(_) => 0,
             Refusal::NoSuchNumber => 0,
             Refusal::NoSuchTables => 0,
             Refusal::CutShort => 0,
@@ -76,6 +77,16 @@ impl Refusal {
             Refusal::WrongSize => 0,
             Refusal::NoRoom => 0,
             Refusal::RunTooLong => 0,
+        }
+    }
+
+    // How many ones there are beyond those that were named, and 0 for a refusal that says nothing of them.
+    pub fn surplus(self) -> i32
+        ensures { λ r. ⌜ r ≡ refusalSurplus self ⌝ }
+    {
+        match self {
+            Refusal::WrongTakeUps(surplus) => surplus,
+            _ => 0,
         }
     }
 }
@@ -102,6 +113,16 @@ impl Verdict {
         match self {
             Verdict::Accepted => 0,
             Verdict::Refused(why) => why.place(),
+        }
+    }
+
+    // [Q3]
+    pub fn surplus(self) -> i32
+        ensures { λ r. ⌜ r ≡ answer.surplus self ⌝ }
+    {
+        match self {
+            Verdict::Accepted => 0,
+            Verdict::Refused(why) => why.surplus(),
         }
     }
 }
@@ -131,5 +152,12 @@ impl Answer {
             Answer::Value(n) => n,
             Answer::Refused(_) => 0,
         }
+    }
+
+    // [Q3]
+    pub fn surplus(self) -> i32
+        ensures { λ r. ⌜ r ≡ answer.surplus (answer.verdict self) ⌝ }
+    {
+        self.verdict().surplus()
     }
 }

@@ -5,6 +5,7 @@ use mathlib.Core.List.{List, [], _∷_}
 use mathlib.Core.Path.{_≡_, refl, _∙_, ap, sym}
 use Prim.Native.Nat.{ℕ, zero, suc, _<_}
 use native.Mathlib.Omega.{arith}
+use lib.IntN.{pos, negsuc, natAbs}
 use lib.ListN.{getD}
 use Rattle.bounded.specs.Bounded.{every, firstFrom}
 use Rattle.refusal.specs.declared.Refusal.{Refusal}
@@ -27,6 +28,7 @@ use Rattle.schedule.specs.Check.{
   isBare,
   badBeat,
   emptyHand,
+  surplusOf,
   handRows,
   playRows,
   beatRows,
@@ -34,9 +36,9 @@ use Rattle.schedule.specs.Check.{
   checked,
 }
 use Rattle.schedule.specs.Skip.{isOther, skipped}
-use Rattle.schedule.specs.Meaning.{First, Nowhere, Bad, Bare, Refuses, Right}
+use Rattle.schedule.specs.Meaning.{First, Nowhere, Bad, Bare, Off, Near, Refuses, Right}
 use Rattle.schedule.proofs.Hand.{plays, plays-schedule}
-use Rattle.schedule.proofs.Theorems.{refused-refuses, refuses-refused, lists-N}
+use Rattle.schedule.proofs.Theorems.{refused-refuses, refuses-refused, six-off, lists-N}
 
 -- a beat of 2 is neither a one nor a zero
 ones-1102 : ones (1 ∷ 1 ∷ 0 ∷ 2 ∷ []) ≡ 2
@@ -232,9 +234,49 @@ unfolding ones zeros firstFrom
 checked-1001 = refl
 
 -- [E2]
-checked-111 : checked 2 1 (1 ∷ 1 ∷ 1 ∷ []) ≡ Verdict.Refused WrongTakeUps
+checked-111 : checked 2 1 (1 ∷ 1 ∷ 1 ∷ []) ≡ Verdict.Refused (WrongTakeUps (pos 1))
 unfolding ones zeros firstFrom
 checked-111 = refl
+
+-- a one is missing: ℤ has -1 as negsuc 0 [Q7]
+pub checked-1010 : checked 3 1 (1 ∷ 0 ∷ 1 ∷ 0 ∷ []) ≡ Verdict.Refused (WrongTakeUps (negsuc 0))
+unfolding ones zeros firstFrom
+checked-1010 = refl
+
+checked-10 : checked 2 0 (1 ∷ 0 ∷ []) ≡ Verdict.Refused (WrongTakeUps (negsuc 0))
+unfolding ones zeros firstFrom
+checked-10 = refl
+
+-- the ones beyond t: two missing, two too many
+surplus-down : surplusOf 3 (1 ∷ 0 ∷ []) ≡ negsuc 1
+unfolding ones
+surplus-down = refl
+
+surplus-up : surplusOf 1 (1 ∷ 1 ∷ 1 ∷ []) ≡ pos 2
+unfolding ones
+surplus-up = refl
+
+-- 1010 is off by -1 for t = 3, and not by 1; 110 is not off for t = 2, by 0 or anything
+off-1010 : Off 3 (1 ∷ 0 ∷ 1 ∷ 0 ∷ []) (negsuc 0)
+unfolding ones zeros firstFrom
+off-1010 = six-off 3 1 (1 ∷ 0 ∷ 1 ∷ 0 ∷ []) refl
+
+not-off-by-1 : Off 3 (1 ∷ 0 ∷ 1 ∷ 0 ∷ []) (pos 1) → ⊥
+unfolding ones
+not-off-by-1 p = omega (arith, ap natAbs (p .sum))
+
+not-off : Off 2 (1 ∷ 1 ∷ 0 ∷ []) (pos 0) → ⊥
+not-off p = p .some refl
+
+-- of (5,2): a 6 can say −1, ⌊3/2⌋ being 1, and not −2; and no more than 2
+near-down : Near 5 2 (negsuc 0)
+near-down = (record { le = tt }, record { le = tt })
+
+not-near-down : Near 5 2 (negsuc 1) → ⊥
+not-near-down p = p .0 .le
+
+not-near-up : Near 5 2 (pos 3) → ⊥
+not-near-up p = p .1 .le
 
 -- the meaning of each refusal
 refuses-200 : Refuses 200 0 [] TooManyTasks
@@ -252,8 +294,11 @@ refuses-02 = refused-refuses 1 1 (0 ∷ 2 ∷ []) (BadBeat 1) checked-02
 refuses-1001 : Refuses 2 2 (1 ∷ 0 ∷ 0 ∷ 1 ∷ []) (EmptyHand 2)
 refuses-1001 = refused-refuses 2 2 (1 ∷ 0 ∷ 0 ∷ 1 ∷ []) (EmptyHand 2) checked-1001
 
-refuses-111 : Refuses 2 1 (1 ∷ 1 ∷ 1 ∷ []) WrongTakeUps
-refuses-111 = refused-refuses 2 1 (1 ∷ 1 ∷ 1 ∷ []) WrongTakeUps checked-111
+refuses-111 : Refuses 2 1 (1 ∷ 1 ∷ 1 ∷ []) (WrongTakeUps (pos 1))
+refuses-111 = refused-refuses 2 1 (1 ∷ 1 ∷ 1 ∷ []) (WrongTakeUps (pos 1)) checked-111
+
+refuses-1010 : Refuses 3 1 (1 ∷ 0 ∷ 1 ∷ 0 ∷ []) (WrongTakeUps (negsuc 0))
+refuses-1010 = refused-refuses 3 1 (1 ∷ 0 ∷ 1 ∷ 0 ∷ []) (WrongTakeUps (negsuc 0)) checked-1010
 
 -- 11010 is refused for nothing, 1001 at no other place, and 02 not for its empty hand
 refuses-nothing : (why : Refusal) → Refuses 3 2 (1 ∷ 1 ∷ 0 ∷ 1 ∷ 0 ∷ []) why → ⊥
@@ -285,7 +330,7 @@ hand-1001 : judge (handRows 2 (1 ∷ 0 ∷ 0 ∷ 1 ∷ [])) ≡ Verdict.Refused 
 unfolding ones zeros firstFrom
 hand-1001 = refl
 
-hand-111 : judge (handRows 2 (1 ∷ 1 ∷ 1 ∷ [])) ≡ Verdict.Refused WrongTakeUps
+hand-111 : judge (handRows 2 (1 ∷ 1 ∷ 1 ∷ [])) ≡ Verdict.Refused (WrongTakeUps (pos 1))
 unfolding ones zeros firstFrom
 hand-111 = refl
 
@@ -293,20 +338,20 @@ play-02 : judge (playRows 1 (0 ∷ 2 ∷ [])) ≡ Verdict.Refused (BadBeat 1)
 unfolding firstFrom
 play-02 = refl
 
-play-111 : judge (playRows 2 (1 ∷ 1 ∷ 1 ∷ [])) ≡ Verdict.Refused WrongTakeUps
+play-111 : judge (playRows 2 (1 ∷ 1 ∷ 1 ∷ [])) ≡ Verdict.Refused (WrongTakeUps (pos 1))
 unfolding ones zeros firstFrom
 play-111 = refl
 
 beats-11 : judge (beatRows 2 1 (1 ∷ 1 ∷ [])) ≡ Verdict.Refused WrongLength
 beats-11 = refl
 
-beats-111 : judge (beatRows 2 1 (1 ∷ 1 ∷ 1 ∷ [])) ≡ Verdict.Refused WrongTakeUps
+beats-111 : judge (beatRows 2 1 (1 ∷ 1 ∷ 1 ∷ [])) ≡ Verdict.Refused (WrongTakeUps (pos 1))
 unfolding ones zeros firstFrom
 beats-111 = refl
 
 rows-200 : judge (checkRows 200 0 []) ≡ Verdict.Refused TooManyTasks
 rows-200 = refl
 
-rows-111 : judge (checkRows 2 1 (1 ∷ 1 ∷ 1 ∷ [])) ≡ Verdict.Refused WrongTakeUps
+rows-111 : judge (checkRows 2 1 (1 ∷ 1 ∷ 1 ∷ [])) ≡ Verdict.Refused (WrongTakeUps (pos 1))
 unfolding ones zeros firstFrom
 rows-111 = refl

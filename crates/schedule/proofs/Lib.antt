@@ -3,6 +3,7 @@ pub mod Scan
 pub mod Skipping
 pub mod Rows
 pub mod Reflect
+pub mod Surplus
 pub mod Verdicts
 pub mod Theorems
 pub mod Hand

@@ -3,11 +3,12 @@
 --     wrong-length, bad-beat, empty-hand, wrong-take-ups, accepted
 --     sound-beats     beats none of which is bad are 0 or 1
 --     ones-by-hand    what is in hand at the end says whether the ones are t
+--     hand-ones       and how many they are: with the beats, twice the ones
 -- Assumes nothing.
 use mathlib.Core.List.{List}
 use mathlib.Core.Logic.{_↔_}
 use mathlib.Core.Path.{_≡_}
-use Prim.Native.Nat.{ℕ, _+_, _≤_, _<_}
+use Prim.Native.Nat.{ℕ, _+_, _/_, _≤_, _<_}
 use native.Mathlib.Omega.{arith}
 use borrow.Author.Tests.{lt-ltb, le-ltb, eq-eqb, ne-eqb, ltb-false}
 use lib.ListN.{length, getD}
@@ -15,7 +16,7 @@ use Rattle.refusal.specs.declared.Refusal.the-variants.{WrongLength, BadBeat, E
 use Rattle.refusal.specs.declared.Verdict.{Verdict}
 use Rattle.refusal.specs.Rows.{judge}
 use Rattle.schedule.specs.Schedule.{ones, zeros}
-use Rattle.schedule.specs.Check.{badBeat, emptyHand, isBad, beatRows}
+use Rattle.schedule.specs.Check.{badBeat, emptyHand, isBad, surplusOf, beatRows}
 use Rattle.bounded.proofs.First.{first-before}
 use Rattle.schedule.proofs.Tally.{tally}
 
@@ -26,6 +27,10 @@ pub ones-by-hand : (b : List ℕ) (t s hand : ℕ) → length b ≡ t + s → le
     → (hand + s ≡ t) ↔ (ones b ≡ t)
 ones-by-hand b t s hand n h e =
     (λ q. omega (arith, tally b (sound-beats b h)), λ q. omega (arith, tally b (sound-beats b h)))
+
+pub hand-ones : (b : List ℕ) (hand : ℕ) → length b ≤ badBeat b → hand + zeros b ≡ ones b
+    → (length b + hand) / 2 ≡ ones b
+hand-ones b hand h e = omega (arith, tally b (sound-beats b h))
 
 module _ (t s : ℕ) (b : List ℕ) where
   pub wrong-length : ((length b ≡ t + s) → ⊥) → judge (beatRows t s b) ≡ Verdict.Refused WrongLength
@@ -41,7 +46,8 @@ module _ (t s : ℕ) (b : List ℕ) where
           simp (eq-eqb (length b) (t + s) n, le-ltb (badBeat b) (length b) h, lt-ltb (emptyHand b) (length b) k)
 
       module _ (k : length b ≤ emptyHand b) where
-        pub wrong-take-ups : ((ones b ≡ t) → ⊥) → judge (beatRows t s b) ≡ Verdict.Refused WrongTakeUps
+        pub wrong-take-ups : ((ones b ≡ t) → ⊥)
+            → judge (beatRows t s b) ≡ Verdict.Refused (WrongTakeUps (surplusOf t b))
         wrong-take-ups o = simp (
           eq-eqb (length b) (t + s) n,
           le-ltb (badBeat b) (length b) h,

@@ -7,9 +7,10 @@ use mathlib.Core.Path.{_≡_, _∙_, ap, sym, subst}
 use Prim.Native.Nat.{ℕ, _+_, _≤_, _<_}
 use native.Mathlib.Omega.{arith}
 use native.Mathlib.Decide.{decLt, decLe, ℕ-discrete}
+use lib.IntN.{ℤ}
 use lib.ListN.{length}
 use Rattle.refusal.specs.declared.Refusal.{Refusal}
-use Rattle.refusal.specs.declared.Refusal.the-variants.{BadBeat, EmptyHand}
+use Rattle.refusal.specs.declared.Refusal.the-variants.{BadBeat, EmptyHand, WrongTakeUps}
 use Rattle.refusal.specs.declared.Verdict.{Verdict}
 use Rattle.refusal.specs.Rows.{judge}
 use Rattle.refusal.proofs.Rows.{judge-refused, judge-accepted}
@@ -17,9 +18,10 @@ use Rattle.triangle.specs.Count.{largest}
 use Rattle.counts.specs.Counts.{Allowed, countRows}
 use Rattle.counts.proofs.Sizes.{too-many, more-down, allowed-counts}
 use Rattle.schedule.specs.Schedule.{ones}
-use Rattle.schedule.specs.Check.{badBeat, emptyHand, beatRows, checked}
+use Rattle.schedule.specs.Check.{badBeat, emptyHand, surplusOf, beatRows, checked}
 use Rattle.schedule.specs.Meaning.{Refuses, for-tasks, for-downs, for-length, for-beat, for-hand, for-ups, Right}
 use Rattle.schedule.proofs.Rows.{wrong-length, bad-beat, empty-hand, wrong-take-ups, accepted}
+use Rattle.schedule.proofs.Surplus.{surplus-sum, sum-surplus}
 use Rattle.schedule.proofs.Reflect.{
   bad-first,
   first-bad,
@@ -51,7 +53,9 @@ module _ (t s : ℕ) (b : List ℕ) where
       let e = first-bare b at p in
       by-beats a _ (empty-hand t s b n (no-bad-passed b f) (omega (arith, p .inside)))
       ∙ ap (λ (k : ℕ). Verdict.Refused (EmptyHand k)) e
-  refused why (for-ups a n f e o) = by-beats a _ (wrong-take-ups t s b n (no-bad-passed b f) (no-bare-passed b e) o)
+  refused why (for-ups a n f e o q) =
+      by-beats a _ (wrong-take-ups t s b n (no-bad-passed b f) (no-bare-passed b e) o)
+      ∙ ap (λ (z : ℤ). Verdict.Refused (WrongTakeUps z)) (sum-surplus t b q)
 
   pub right-checked : (v : Verdict) → Right t s b v → checked t s b ≡ v
   right-checked Verdict.Accepted r =
@@ -66,7 +70,8 @@ module _ (t s : ℕ) (b : List ℕ) where
   module _ (a : Allowed t s) (n : length b ≡ t + s) (f : length b ≤ badBeat b) where
     right-ups : length b ≤ emptyHand b → Dec (ones b ≡ t) → (v : Verdict) × Right t s b v
     right-ups e (yes o) = (Verdict.Accepted, (a, passed-schedule b t s n f e o))
-    right-ups e (no o) = refuse (for-ups a n (passed-no-bad b f) (passed-no-bare b e) o)
+    right-ups e (no o) =
+        refuse (for-ups {z = surplusOf t b} a n (passed-no-bad b f) (passed-no-bare b e) o (surplus-sum t b))
 
     right-hand : Dec (emptyHand b < length b) → (v : Verdict) × Right t s b v
     right-hand (yes e) = refuse (for-hand a n (passed-no-bad b f) (bare-first b e))

@@ -4,13 +4,17 @@
 --     Nowhere P n     P holds of no number below n
 --     Bad b k         the beat at k is neither 0 nor 1
 --     Bare b k        the beat at k sets down with nothing in hand: a 0 with no more ones than zeros before it
+--     Off t b z       z is how many ones b has beyond t, and that is not none: z and t together are the ones [Q1]
+--     Near t s z      z is one of the numbers that a 6 can say: from −⌊(t − s)/2⌋ to s [Q4]
 --     Refuses         when each refusal is given: its row holds, and no row before it does [R4]
 --     Right           the right verdict: accepted exactly if the beats are a schedule of allowed counts, else the
 --                     refusal
 use mathlib.Core.List.{List}
 use mathlib.Core.Logic.{_≢_}
 use mathlib.Core.Path.{_≡_}
-use Prim.Native.Nat.{ℕ, _+_, _≤_, _<_}
+use Prim.Native.Nat.{ℕ, _+_, _-_, _/_, _≤_, _<_}
+use lib.IntN.{ℤ, pos, negℤ, _+ℤ_}
+use lib.Signed.{_≤ℤ_}
 use lib.ListN.{length, getD, take}
 use Rattle.refusal.specs.declared.Refusal.{Refusal}
 use Rattle.refusal.specs.declared.Refusal.the-variants.{TooManyTasks, MoreDownThanUp, WrongLength}
@@ -34,6 +38,13 @@ Bad b k = 1 < getD b k 0
 abbrev pub Bare : List ℕ → ℕ → Type 0
 Bare b k = (getD b k 0 ≡ 0) × (ones (take k b) ≤ zeros (take k b))
 
+pub record Off (t : ℕ) (b : List ℕ) (z : ℤ) : Type 0 where
+  pub sum : z +ℤ pos t ≡ pos (ones b)
+  pub some : z ≢ pos 0
+
+abbrev pub Near : ℕ → ℕ → ℤ → Type 0
+Near t s z = (negℤ (pos ((t - s) / 2)) ≤ℤ z) × (z ≤ℤ pos s)
+
 pub data Refuses (t s : ℕ) (b : List ℕ) : Refusal → Type 0 where
   for-tasks : largest < t → Refuses t s b TooManyTasks
   for-downs : t ≤ largest → t < s → Refuses t s b MoreDownThanUp
@@ -41,8 +52,8 @@ pub data Refuses (t s : ℕ) (b : List ℕ) : Refusal → Type 0 where
   for-beat : {at : ℕ} → Allowed t s → length b ≡ t + s → First (Bad b) (length b) at → Refuses t s b (BadBeat at)
   for-hand : {at : ℕ} → Allowed t s → length b ≡ t + s → Nowhere (Bad b) (length b) → First (Bare b) (length b) at
       → Refuses t s b (EmptyHand at)
-  for-ups : Allowed t s → length b ≡ t + s → Nowhere (Bad b) (length b) → Nowhere (Bare b) (length b) → ones b ≢ t
-      → Refuses t s b WrongTakeUps
+  for-ups : {z : ℤ} → Allowed t s → length b ≡ t + s → Nowhere (Bad b) (length b) → Nowhere (Bare b) (length b)
+      → ones b ≢ t → z +ℤ pos t ≡ pos (ones b) → Refuses t s b (WrongTakeUps z)
 
 abbrev pub Right : ℕ → ℕ → List ℕ → Verdict → Type 0
 Right t s b Verdict.Accepted = Allowed t s × Schedule t s b

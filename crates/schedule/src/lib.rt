@@ -2,7 +2,8 @@
 // and writes nothing. The contracts cite specs/Check, that of skip specs/Skip;
 // proofs/Theorems says what the verdicts mean.
 ghost use mathlib.Core.Path.{_≡_};
-ghost use Prim.Native.Nat.{ℕ, _+_, _≤_, _<_};
+ghost use Prim.Native.Nat.{ℕ, _+_, _^_, _≤_, _<_};
+ghost use lib.IntN.{pos, _-ℤ_};
 ghost use lib.ListN.{length, take, getD};
 ghost use Rattle.refusal.specs.declared.Verdict.{Verdict};
 ghost use Rattle.refusal.specs.Rows.{judge};
@@ -76,6 +77,14 @@ fn play(beats: &[u8]) -> Played
     Played { at: place, hand }
 }
 
+// How many ones there are beyond t; below 0 where some are missing. [Q1]
+fn beyond(t: u64, ones: u64) -> i32
+    requires { ⌜ (t < 2 ^ 31) × (ones < 2 ^ 31) ⌝ }
+    ensures { λ r. ⌜ r ≡ pos ones -ℤ pos t ⌝ }
+{
+    ones as i32 - t as i32
+}
+
 // The refusals 3 to 6 of beats whose counts are allowed.
 fn check_beats(t: u64, s: u64, beats: &[u8]) -> Verdict
     requires { ⌜ judge (countRows t s) ≡ Verdict.Accepted ⌝ }
@@ -94,7 +103,8 @@ fn check_beats(t: u64, s: u64, beats: &[u8]) -> Verdict
         return Verdict::Refused(Refusal::EmptyHand(played.at as u64));
     }
     if played.hand as u64 + s != t {
-        return Verdict::Refused(Refusal::WrongTakeUps);
+        let ones = (n + played.hand) / 2; // in hand are the ones without a zero of their own
+        return Verdict::Refused(Refusal::WrongTakeUps(beyond(t, ones as u64)));
     }
     Verdict::Accepted // no row holds
 }

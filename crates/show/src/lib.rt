@@ -14,6 +14,14 @@ pub fn number(n: u64) {
     io::print_decimal(1, n);
 }
 
+// An integer in decimal.
+fn integer(n: i32) {
+    if n < 0 {
+        text(b"-");
+    }
+    number(text::magnitude(n));
+}
+
 // A beat as a digit, or in brackets where it has more than one.
 fn beat(b: u8) {
     if b < 10 {
@@ -35,7 +43,7 @@ pub fn beats(b: &[u8]) {
     }
 }
 
-// "accepted", or "refused", the number and the place.
+// "accepted", or "refused", the number, the place and the surplus.
 pub fn verdict(v: Verdict) {
     let refusal = v.refusal();
     if refusal == 0 {
@@ -46,6 +54,8 @@ pub fn verdict(v: Verdict) {
     number(refusal);
     text(b" ");
     number(v.place());
+    text(b" ");
+    integer(v.surplus());
 }
 
 // The value, or the refusal.
@@ -75,4 +85,17 @@ pub fn digest(before: u64, beats: &[u8]) -> u64 {
         sum = (sum * 31 + wide(beats[i]) % 256) % 4294967291;
     }
     sum
+}
+
+// The digest of one more number, as digest folds a beat.
+pub fn fold(before: u64, x: u64) -> u64 {
+    (before % 4294967291 * 31 + x % 4294967291) % 4294967291
+}
+
+// The digest of a verdict: its number, its place, how far its surplus is from 0, and 1 where that is below 0.
+pub fn fold_verdict(before: u64, v: Verdict) -> u64 {
+    let surplus = v.surplus();
+    let sum = fold(fold(before, v.refusal()), v.place());
+    let sign = if surplus < 0 { 1 } else { 0 };
+    fold(fold(sum, text::magnitude(surplus)), sign)
 }

@@ -1,6 +1,8 @@
 -- What the definitions of specs/ mean, once over all numbers.
 --     decimal-spells      a decimal is digits that say its number, and none of several begins with 0 [E13]
 --     spells-decimal      no other text does that [E13]
+--     signed-says, says-signed     the same of an integer [Q6]
+--     signed-one          so two integers with one text are one [Q6]
 --     written-one         no second text and no second answer fits what is said of a written piece [P12]
 -- That a number of 64 bits has at most 20 digits is `digits-fit` in Digits. Assumes nothing.
 use mathlib.Core.List.{List, [], _∷_, _++_, append-nil}
@@ -8,10 +10,11 @@ use mathlib.Core.Path.{_≡_, refl, _∙_, ap, ap₂, sym}
 use Prim.Native.Nat.{ℕ, zero, suc, _+_, _-_, _*_, _/_, _%_, _≤_, _<_}
 use native.Mathlib.Decide.{decLt}
 use native.Mathlib.Omega.{arith}
-use lib.ListN.{length, getD, List·getD-append, length-append}
+use lib.IntN.{ℤ, pos, negsuc}
+use lib.ListN.{length, getD, drop, List·getD-append, length-append}
 use lib.Seq.{getD-append-seam, append-snoc}
-use Rattle.text.specs.Decimal.{decimal}
-use Rattle.text.specs.Spells.{digitsValue, Spells}
+use Rattle.text.specs.Decimal.{decimal, signed}
+use Rattle.text.specs.Spells.{digitsValue, Spells, Says}
 use Rattle.text.specs.Written.{Written}
 use Rattle.text.proofs.Digits.{decimal-one, decimal-more}
 
@@ -98,6 +101,31 @@ spells-decimal n (x ∷ y ∷ d) q =
     sym (ap decimal (sym (q .value))
     ∙ decimal-join v (y ∷ d) (omega (arith, q .first (omega arith))) (λ k l. q .digits (suc k) (omega arith))
     ∙ ap (λ (l : List ℕ). l ++ y ∷ d) (decimal-one v (omega arith) ∙ ap (λ (k : ℕ). k ∷ []) digit))
+
+pub signed-says : (z : ℤ) → Says z (signed z)
+signed-says (pos n) = decimal-spells n
+signed-says (negsuc n) = (decimal (suc n), decimal-spells (suc n), refl)
+
+pub says-signed : (z : ℤ) (d : List ℕ) → Says z d → d ≡ signed z
+says-signed (pos n) d q = spells-decimal n d q
+says-signed (negsuc n) d q = q .2 ∙ ap (λ (e : List ℕ). 45 ∷ e) (spells-decimal (suc n) (q .0) (q .1))
+
+decimal-same : (m n : ℕ) → decimal m ≡ decimal n → m ≡ n
+decimal-same m n e = sym (decimal-spells m .value) ∙ ap (digitsValue 0) e ∙ decimal-spells n .value
+
+-- digits have no - before them
+no-sign : (n : ℕ) (d : List ℕ) → decimal n ≡ 45 ∷ d → ⊥
+no-sign n d e =
+    let q = decimal-spells n in
+    let digit = q .digits 0 (omega (arith, q .some)) in
+    omega (arith, digit .0, ap (λ (l : List ℕ). getD l 0 0) e)
+
+pub signed-one : (y z : ℤ) → signed y ≡ signed z → y ≡ z
+signed-one (pos m) (pos n) e = ap pos (decimal-same m n e)
+signed-one (pos m) (negsuc n) e = absurd (no-sign m _ e)
+signed-one (negsuc m) (pos n) e = absurd (no-sign n _ (sym e))
+signed-one (negsuc m) (negsuc n) e =
+    ap negsuc (omega (arith, decimal-same (suc m) (suc n) (ap (drop 1) e)))
 
 pub written-one : {at r q : ℕ} {p xs ys zs : List ℕ} → Written at p xs ys r → Written at p xs zs q → (ys ≡ zs) × (r ≡ q)
 written-one w v = (w .text ∙ sym (v .text), w .end ∙ sym (v .end))

@@ -1,10 +1,12 @@
-// The text that any line is made of: a byte, and a number in decimal, each written where it is to stand, with no
-// copy. The contracts cite specs/Decimal and specs/Written; proofs/Theorems says what a decimal is. [P1]
+// The text that any line is made of: a byte, a number and an integer in decimal, each written where it is to stand,
+// with no copy. The contracts cite specs/Decimal and specs/Written; proofs/Theorems says what a decimal is. [P1]
 ghost use mathlib.Core.List.{[], _∷_, _++_};
 ghost use mathlib.Core.Path.{_≡_};
 ghost use Prim.Native.Nat.{_+_, _≤_, _<_};
+ghost use lib.IntN.{natAbs};
 ghost use lib.ListN.{length};
 ghost use Rattle.text.specs.Decimal.{decimal as Decimal·decimal};
+ghost use Rattle.text.specs.Decimal.{signed as Decimal·signed};
 ghost use Rattle.text.specs.Written.{Written};
 
 // Writes one byte, and answers the index after it.
@@ -56,4 +58,26 @@ pub fn field(n: u64, out: &mut [u8], at: usize) -> usize
 {
     let end = decimal(n, out, at);
     put(b' ', out, end)
+}
+
+// How far n is from 0. Below 0, -1 - n fits its type, which 0 - n does not for the least one. [Q6]
+pub fn magnitude(n: i32) -> u64
+    ensures { λ r. ⌜ r ≡ natAbs n ⌝ }
+{
+    if n < 0 {
+        return (-1 - n) as u64 + 1;
+    }
+    n as u64
+}
+
+// Writes n in decimal, after a - where it is below 0, and answers the index after it. [Q6]
+pub fn signed(n: i32, out: &mut [u8], at: usize) -> usize
+    requires { ⌜ at + 21 ≤ length (now out) ⌝ }
+    ensures { λ r. ⌜ Written at (Decimal·signed n) (now (out .entry)) (now (out .exit)) r ⌝ }
+{
+    if n < 0 {
+        let digits = put(b'-', out, at);
+        return decimal(magnitude(n), out, digits);
+    }
+    decimal(magnitude(n), out, at)
 }

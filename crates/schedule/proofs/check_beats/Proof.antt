@@ -4,16 +4,19 @@ use mathlib.Core.Path.{_≡_, _∙_, ap, sym}
 use Prim.Native.Nat.{ℕ, _+_, _≤_}
 use native.Mathlib.Omega.{arith}
 use borrow.Author.Needs.{needs}
+use lib.IntN.{ℤ, pos, _-ℤ_}
 use lib.ListN.{length}
 use lib.Seq.{take-all}
-use Rattle.refusal.specs.declared.Refusal.the-variants.{BadBeat, EmptyHand}
+use Rattle.refusal.specs.declared.Refusal.the-variants.{BadBeat, EmptyHand, WrongTakeUps}
 use Rattle.refusal.specs.declared.Verdict.{Verdict}
+use Rattle.triangle.specs.Count.{largest, mostBeats}
 use Rattle.counts.proofs.Sizes.{counts-allowed}
 use Rattle.schedule.specs.Schedule.{ones, zeros}
 use Rattle.schedule.specs.Check.{badBeat, emptyHand}
 use Rattle.schedule.proofs.Rows.{
   sound-beats,
   ones-by-hand,
+  hand-ones,
   wrong-length,
   bad-beat,
   empty-hand,
@@ -85,18 +88,36 @@ module _ (c : tie.Else3) where
       ones-by-hand (start .args .beats .now) (start .args .t) (start .args .s) (c .before .before .play .result .hand)
       sized (sound (c .before .before .before)) in-hand
 
+  -- the numbers are small
+  few : (start .args .t ≤ largest) × (length (start .args .beats .now) ≤ mostBeats)
+      × (c .before .before .play .result .hand ≤ mostBeats)
+  few =
+      let b = start .args .beats .now in
+      let allowed = counts-allowed (start .args .t) (start .args .s) (start .pre) in
+      let all = tally b (sound-beats b (sound (c .before .before .before))) in
+      (allowed .0, omega (arith, sized, allowed), omega (arith, in-hand, all, sized, allowed))
+
 add-if4 : tie.Need-add-if4
-add-if4 c =
-    let b = start c .args .beats .now in
-    let few = counts-allowed (start c .args .t) (start c .args .s) (start c .pre) in
-    omega (arith, in-hand c, tally b (sound-beats b (sound (c .before .before .before))), sized c, few .0, few .1)
+add-if4 c = omega (arith, few c, counts-allowed (start c .args .t) (start c .args .s) (start c .pre))
+
+add-ones : tie.Need-add-ones
+add-ones c = omega (arith, few (c .before .before))
+
+beyond-requires : tie.Need-beyond-requires
+beyond-requires c κs = let small = few (c .before .before) in (omega (arith, small), omega (arith, small))
 
 returns-4 : tie.Need-returns-4
 returns-4 c =
-    let end = c .before in
+    let off = c .before .before in
+    let end = off .before in
     let args = start end .args in
-    sym (wrong-take-ups (args .t) (args .s) (args .beats .now) (sized end) (sound (end .before .before .before))
-    (ended end) (λ o. c .if4 .taken (by-hand end .1 o)))
+    let b = args .beats .now in
+    let no-bad = sound (end .before .before .before) in
+    let ones-are = hand-ones b (end .before .before .play .result .hand) no-bad (in-hand end) in
+    ap (λ (z : ℤ). Verdict.Refused (WrongTakeUps z))
+    (search needs ∙ c .beyond .ensures ∙ ap (λ (o : ℕ). pos o -ℤ pos (args .t)) ones-are)
+    ∙ sym (wrong-take-ups (args .t) (args .s) b (sized end) no-bad (ended end)
+    (λ o. off .if4 .taken (by-hand end .1 o)))
 
 returns-5 : tie.Need-returns-5
 returns-5 c =
@@ -116,5 +137,7 @@ check-beats-spec =
     play-requires
     returns-3
     add-if4
+    add-ones
+    beyond-requires
     returns-4
     returns-5)
