@@ -1,9 +1,9 @@
 /*
  * Holds every function of include/ghanveltri.h to host/independent.c: differential [--brief] [SEED].
  *
- * Exhaustive for small counts and short lists, random for the rest; host/asking.c makes the calls. The random
- * part comes from a new seed, which is printed; giving it repeats a run. --brief makes every part smaller.
- * Ends with status 1 at the first difference.
+ * Exhaustive for small counts and short lists, random for the rest: host/choosing.c chooses, host/asking.c makes
+ * the calls. The random part comes from a new seed, which is printed; giving it repeats a run. --brief makes every
+ * part smaller. Ends with status 1 at the first difference.
  */
 #define _POSIX_C_SOURCE 200809L
 #include <inttypes.h>
@@ -13,6 +13,7 @@
 #include <time.h>
 
 #include "asking.h"
+#include "choosing.h"
 #include "independent.h"
 
 /* How far each part goes. */
@@ -26,74 +27,6 @@ static struct extent {
 } extent = {9, 7, 12, 7, 100, 200000, 100};
 
 static const struct extent BRIEF = {9, 6, 8, 6, 20, 20000, 16};
-
-/* Randomness. */
-
-static uint64_t state;
-
-/* 64 random bits (splitmix64). */
-static uint64_t some(void) {
-    uint64_t z = state += UINT64_C(0x9E3779B97F4A7C15);
-    z = (z ^ z >> 30) * UINT64_C(0xBF58476D1CE4E5B9);
-    z = (z ^ z >> 27) * UINT64_C(0x94D049BB133111EB);
-    return z ^ z >> 31;
-}
-
-/* A random number below n, which is not 0. */
-static uint64_t below(uint64_t n) {
-    return some() % n;
-}
-
-/* A number on an edge of a width or a limit, or up to 3 beside it, past 0 and 2^64 too. */
-static uint64_t some_edge(void) {
-    static const uint64_t edges[] = {0, GV_MAX_TASKS, GV_MAX_BEATS, 256, 65536, UINT64_C(1) << 32, UINT64_C(1) << 63};
-    return edges[below(sizeof edges / sizeof edges[0])] + below(7) - 3;
-}
-
-/* Mostly the number given; else an edge, any number, or one of which the given one is the low half. */
-static uint64_t some_number(uint64_t likely) {
-    switch (below(8)) {
-    case 0:
-        return some_edge();
-    case 1:
-        return some() >> below(64);
-    case 2:
-        return likely + (below(UINT64_C(1) << 31) << 32);
-    default:
-        return likely;
-    }
-}
-
-/* A form of allowed counts. */
-static void some_form(struct input *in, uint64_t t, uint64_t s) {
-    in->t = t;
-    in->s = s;
-    in->length = t + s;
-    form_by_groups(t, s, below(count_by_formula(t, s)), in->beats);
-}
-
-/* Changes a beat, exchanges two, or makes the slice shorter or longer. */
-static void damage(struct input *in) {
-    size_t a = below(in->length + 1), b = below(in->length + 1);
-    uint8_t kept = in->beats[a];
-    switch (below(5)) {
-    case 0:
-        in->beats[a] ^= 1;
-        break;
-    case 1:
-        in->beats[a] = (uint8_t)some();
-        break;
-    case 2:
-        in->beats[a] = in->beats[b];
-        in->beats[b] = kept;
-        break;
-    case 3:
-        in->length = a;
-        break;
-    default:
-        in->length = below(ROOM);
-    }
-}
 
 /* As many steps on and back. */
 static void verify_runs(const struct input *in, uint64_t steps) {
@@ -464,8 +397,10 @@ static void counts(void) {
     for (t = 0; t <= 300; t++)
         for (s = 0; s <= 300; s++)
             verify_counts(t, s);
-    for (turn = 0; turn < extent.mixed; turn++)
-        verify_counts(some_number(below(GV_MAX_TASKS + 8)), some_number(below(GV_MAX_TASKS + 8)));
+    for (turn = 0; turn < extent.mixed; turn++) {
+        t = some_number(below(GV_MAX_TASKS + 8));
+        verify_counts(t, some_number(below(GV_MAX_TASKS + 8)));
+    }
 }
 
 /* The forms on both sides of the closing step, and runs up to it and past it, on and back. */
@@ -605,7 +540,7 @@ int main(int argc, char **argv) {
         return 2;
     }
     printf("seed %" PRIu64 "\n", seed);
-    state = seed;
+    begin_choosing(seed);
     begin_asking(seed);
     run_parts();
     printf("%" PRIu64 " calls, no difference\n", calls_made());
