@@ -52,7 +52,7 @@ fn line(t: u64, s: u64) {
     show::text(b"\n");
 }
 
-// A line for each s up to t.
+// A line for each s up to t, where that makes at most 12 beats.
 fn row(t: u64) {
     for s in 0..13u64 {
         if s <= t {
