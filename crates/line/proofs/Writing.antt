@@ -4,7 +4,8 @@
 --     written-none, written-beats   no beat is to be written; every beat is written
 --     text-fits                     the beats, or -, take one byte each, and at least one
 --     word                          the word refused and a space
---     written-accepted, written-refused              the parts of a line, one after the other, are the line
+--     written-accepted, written-refused              the parts of a line, or of what it says of a refusal, one after the
+--                                   other, are the whole
 -- Assumes nothing.
 use mathlib.Core.List.{List, [], _∷_, _++_, map, append-assoc}
 use mathlib.Core.Logic.{_⊎_, inl, inr}
@@ -20,7 +21,7 @@ use Rattle.refusal.specs.Refusal.{refusalNumber, refusalPlace, refusalSurplus}
 use Rattle.refusal.specs.declared.Refusal.{Refusal}
 use Rattle.text.proofs.Writing.{written-then}
 use Rattle.text.specs.Decimal.{decimal, signed}
-use Rattle.line.specs.Line.{beatText, acceptedLine, refusedLine}
+use Rattle.line.specs.Line.{beatText, acceptedLine, refusedText}
 use Rattle.text.specs.Written.{Written}
 
 abbrev pub glyphs : List ℕ → List ℕ
@@ -75,11 +76,10 @@ word = 114 ∷ 101 ∷ 102 ∷ 117 ∷ 115 ∷ 101 ∷ 100 ∷ 32 ∷ []
 
 pub written-refused : (why : Refusal) {number place : ℕ} {off : ℤ}
     → number ≡ refusalNumber why → place ≡ refusalPlace why → off ≡ refusalSurplus why
-    → {h i j k r : ℕ} {v w x y z out : List ℕ}
+    → {h i j r : ℕ} {v w x y out : List ℕ}
     → Written 0 word v w h → Written h (decimal number ++ 32 ∷ []) w x i → Written i (decimal place ++ 32 ∷ []) x y j
-    → Written j (signed off) y z k → Written k (10 ∷ []) z out r → Written 0 (refusedLine why) v out r
-written-refused why en ep es {r = r} {v = v} {out = out} first second third fourth fifth =
+    → Written j (signed off) y out r → Written 0 (refusedText why) v out r
+written-refused why en ep es {r = r} {v = v} {out = out} first second third fourth =
     let two = written-then (omega arith) first second in
-    let four = written-then (omega arith) (written-then (omega arith) two third) fourth in
     subst (λ (p : List ℕ). Written 0 p v out r) (simp append-assoc (rw (en, ep, es)))
-    (written-then (omega arith) four fifth)
+    (written-then (omega arith) (written-then (omega arith) two third) fourth)

@@ -2,8 +2,8 @@
 --     Beats b          every beat is 0 or 1
 --     beatText b       the beats run together as digits; - for the empty schedule
 --     acceptedLine     t, s, the number and the beats, separated by one space; a line feed ends the line
---     refusedLine      the word refused, the refusal's number, its place and its surplus, separated so; a line feed
---                      ends the line [Q6]
+--     refusedText      the word refused, the refusal's number, its place and its surplus, separated so [Q6]
+--     refusedLine      that, and a line feed that ends the line
 use mathlib.Core.List.{List, [], _∷_, _++_, map}
 use Prim.Native.Nat.{ℕ, _+_, _≤_, _<_}
 use lib.ListN.{length, getD}
@@ -22,7 +22,10 @@ abbrev pub acceptedLine : ℕ → ℕ → ℕ → List ℕ → List ℕ
 acceptedLine t s n b = decimal t ++ 32 ∷ decimal s ++ 32 ∷ decimal n ++ 32 ∷ beatText b ++ 10 ∷ []
 
 -- 114, 101, 102, 117, 115, 101, 100 and 32 are the word refused and a space
-abbrev pub refusedLine : Refusal → List ℕ
-refusedLine why =
+abbrev pub refusedText : Refusal → List ℕ
+refusedText why =
     114 ∷ 101 ∷ 102 ∷ 117 ∷ 115 ∷ 101 ∷ 100 ∷ 32 ∷
-    decimal (refusalNumber why) ++ 32 ∷ decimal (refusalPlace why) ++ 32 ∷ signed (refusalSurplus why) ++ 10 ∷ []
+    decimal (refusalNumber why) ++ 32 ∷ decimal (refusalPlace why) ++ 32 ∷ signed (refusalSurplus why)
+
+abbrev pub refusedLine : Refusal → List ℕ
+refusedLine why = refusedText why ++ 10 ∷ []

@@ -1,9 +1,10 @@
 // The text of one line of the packing list: the manual, "The packing list". A line is written where
-// it is to stand, with no copy. The contracts cite specs/Line, and specs/Written of the crate `text`. [P1]
+// it is to stand, with no copy. What it says of a refusal stands in the lines of every list. The contracts cite
+// specs/Line, and specs/Written of the crate `text`. [P1]
 ghost use Prim.Native.Nat.{_+_, _≤_, _<_};
 ghost use lib.ListN.{length};
 ghost use Rattle.text.specs.Written.{Written};
-ghost use Rattle.line.specs.Line.{Beats, beatText, acceptedLine, refusedLine};
+ghost use Rattle.line.specs.Line.{Beats, beatText, acceptedLine, refusedText, refusedLine};
 use refusal::Refusal;
 use text::field;
 use text::put;
@@ -38,15 +39,24 @@ pub fn accepted(t: u64, s: u64, number: u64, beats: &[u8], out: &mut [u8]) -> us
     put(b'\n', out, past_beats)
 }
 
-// Writes the line of a refused record at the start of out, and answers its length. The word and its space want 8
-// bytes, two numbers with their spaces 42, an integer 21 and the line feed 1. [Q6]
-pub fn refused(why: Refusal, out: &mut [u8]) -> usize
-    requires { ⌜ 72 ≤ length (now out) ⌝ }
-    ensures { λ r. ⌜ Written 0 (refusedLine why) (now (out .entry)) (now (out .exit)) r ⌝ }
+// Writes what a line says of a refusal at the start of out, and answers its length. The word and its space want 8
+// bytes, two numbers with their spaces 42, and an integer 21. [Q6]
+pub fn refused_text(why: Refusal, out: &mut [u8]) -> usize
+    requires { ⌜ 71 ≤ length (now out) ⌝ }
+    ensures { λ r. ⌜ Written 0 (refusedText why) (now (out .entry)) (now (out .exit)) r ⌝ }
+    ensures { λ r. ⌜ r ≤ 71 ⌝ }
 {
     let past_word = bytes::copy(b"refused ", out);
     let past_number = field(why.number(), out, past_word);
     let past_place = field(why.place(), out, past_number);
-    let past_surplus = signed(why.surplus(), out, past_place);
-    put(b'\n', out, past_surplus)
+    signed(why.surplus(), out, past_place)
+}
+
+// Writes the line of a refused record at the start of out, and answers its length. [Q6]
+pub fn refused(why: Refusal, out: &mut [u8]) -> usize
+    requires { ⌜ 72 ≤ length (now out) ⌝ }
+    ensures { λ r. ⌜ Written 0 (refusedLine why) (now (out .entry)) (now (out .exit)) r ⌝ }
+{
+    let past_text = refused_text(why, out);
+    put(b'\n', out, past_text)
 }

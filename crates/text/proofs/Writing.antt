@@ -6,11 +6,10 @@
 --     spelling-none, spelling-more, spelling-all     no digit is written; one more; the first
 --                                                    one, which is written last
 --     spelling-some                 before a digit that is not the first stands another
---     field-fits                    a number and a space take at most 21 bytes
 -- Assumes nothing.
 use mathlib.Core.List.{List, [], _∷_, _++_, append-assoc, append-nil}
 use mathlib.Core.Path.{_≡_, refl, _∙_, ap, ap₂, sym, subst, subst₂}
-use Prim.Native.Nat.{ℕ, suc, _+_, _-_, _/_, _%_, _^_, _≤_, _<_}
+use Prim.Native.Nat.{ℕ, suc, _+_, _-_, _/_, _%_, _≤_, _<_}
 use native.Mathlib.Numerals.{add-one}
 use native.Mathlib.Omega.{arith}
 use lib.ListN.{length, take, drop, set, getD, length-append}
@@ -18,7 +17,7 @@ use lib.Seq.{length-take-le, take-at, take-suc, drop-at, drop-drop, set-at, set-
 use lib.Seq.{paste-zero}
 use Rattle.text.specs.Decimal.{decimal}
 use Rattle.text.specs.Written.{Written}
-use Rattle.text.proofs.Digits.{decimal-one, decimal-more, length-more, digits-some, digits-fit}
+use Rattle.text.proofs.Digits.{decimal-one, decimal-more, length-more, digits-some}
 
 pub written-put : (byte at : ℕ) (xs : List ℕ) → at < length xs → Written at (byte ∷ []) xs (set xs at byte) (at + 1)
 written-put byte at xs h = record { text = rw (add-one, append-snoc) (set-split xs at byte h); end = refl }
@@ -112,6 +111,3 @@ module _ {n at : ℕ} {xs : List ℕ} {end : ℕ} {ys : List ℕ} {last rest : �
       let w = u .whole ∙ ap (λ (l : List ℕ). l ++ u .done) one in
       subst₂ (λ (k : ℕ) (l : List ℕ). Written k l xs (set ys last (48 + rest)) end) e (sym w)
       (put-before (48 + rest) last (u .within) (u .written))
-
-pub field-fits : (n : ℕ) → n < 2 ^ 64 → length (decimal n ++ 32 ∷ []) ≤ 21
-field-fits n h = omega (arith, digits-fit n h, length-append (decimal n) (32 ∷ []))

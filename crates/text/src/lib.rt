@@ -38,6 +38,7 @@ fn width(n: u64) -> usize
 pub fn decimal(n: u64, out: &mut [u8], at: usize) -> usize
     requires { ⌜ at + 20 ≤ length (now out) ⌝ }
     ensures { λ r. ⌜ Written at (Decimal·decimal n) (now (out .entry)) (now (out .exit)) r ⌝ }
+    ensures { λ r. ⌜ r ≤ at + 20 ⌝ }
 {
     let end = at + width(n);
     let mut last = end - 1;
@@ -55,6 +56,7 @@ pub fn decimal(n: u64, out: &mut [u8], at: usize) -> usize
 pub fn field(n: u64, out: &mut [u8], at: usize) -> usize
     requires { ⌜ at + 21 ≤ length (now out) ⌝ }
     ensures { λ r. ⌜ Written at (Decimal·decimal n ++ 32 ∷ []) (now (out .entry)) (now (out .exit)) r ⌝ }
+    ensures { λ r. ⌜ r ≤ at + 21 ⌝ }
 {
     let end = decimal(n, out, at);
     put(b' ', out, end)

@@ -4,7 +4,6 @@ use mathlib.Core.Path.{_≡_, _∙_}
 use Prim.Native.Nat.{_≤_, _<_}
 use native.Mathlib.Omega.{arith}
 use lib.ListN.{length}
-use Rattle.text.proofs.Writing.{field-fits}
 use Rattle.line.proofs.Writing.{text-fits, written-accepted}
 use borrow.Author.Needs.{needs}
 use Rattle.line.proofs.accepted.Statement.{statement}
@@ -27,22 +26,21 @@ before-beats c = c .before .before .before .before
 past-t : (c : tie.After-field)
     → (c .field .result ≤ 21) × (length (c .field .last .1 .0) ≡ length (before-t c .args .out .now))
 past-t c =
-    (omega (arith, c .field .ensures .end, field-fits (before-t c .args .t) (search needs)), c .field .kept .1 .0)
+    (omega (arith, c .field .ensures .1), c .field .kept .1 .0)
 
 past-s : (c : tie.After-field2) → let start = before-t (before-s c) in
     (c .field2 .result ≤ 42) × (length (c .field2 .last .1 .0) ≡ length (start .args .out .now))
 past-s c =
     let first = before-s c in (
-      omega (arith, c .field2 .ensures .end, past-t first, field-fits (before-t first .args .s) (search needs)),
+      omega (arith, c .field2 .ensures .1, past-t first),
       c .field2 .kept .1 .0 ∙ past-t first .1,
     )
 
 past-number : (c : tie.After-field3) → let start = before-t (before-s (before-number c)) in
     (c .field3 .result ≤ 63) × (length (c .field3 .last .1 .0) ≡ length (start .args .out .now))
 past-number c =
-    let second = before-number c in
-    let start = before-t (before-s second) in (
-      omega (arith, c .field3 .ensures .end, past-s second, field-fits (start .args .number) (search needs)),
+    let second = before-number c in (
+      omega (arith, c .field3 .ensures .1, past-s second),
       c .field3 .kept .1 .0 ∙ past-s second .1,
     )
 
@@ -89,7 +87,7 @@ returns c =
     let first = before-s second in
     let args = before-t first .args in
     written-accepted (args .t) (args .s) (args .number) (args .beats .now)
-    (first .field .ensures) (second .field2 .ensures) (third .field3 .ensures)
+    (first .field .ensures .0) (second .field2 .ensures .0) (third .field3 .ensures .0)
     (fourth .beat-text .ensures) (fifth .put .ensures)
 
 pub accepted-spec : {M : Type 1} → statement M

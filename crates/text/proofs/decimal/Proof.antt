@@ -79,7 +79,9 @@ same-length c =
     length-set (here .out) (here .last) (48 + here .rest) ∙ here .inv .0
 
 returns : tie.Need-returns Inv-loop μ-loop
-returns c = spelling-all (c .before .loop .inv .1) (omega arith)
+returns c =
+    let written = spelling-all (c .before .loop .inv .1) (omega arith) in
+    (written, omega (arith, written .end, digits-fit (c .before .before .before .before .args .n) (search needs)))
 
 pub decimal-spec : {M : Type 1} → statement M
 decimal-spec =

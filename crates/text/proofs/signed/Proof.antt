@@ -47,7 +47,7 @@ returns c =
     ∙ signed-below (args .n) (rw (back start) at (below .if1 .taken)) in
     let left = number .decimal .last .1 .0 in
     subst (λ (p : List ℕ). Written (args .at) p (args .out .now) left (number .decimal .result)) text
-    (written-then (omega (arith, start .pre)) (minus .put .ensures) (number .decimal .ensures))
+    (written-then (omega (arith, start .pre)) (minus .put .ensures) (number .decimal .ensures .0))
 
 magnitude-requires-2 : tie.Need-magnitude-requires-2
 magnitude-requires-2 c κs = search needs
@@ -69,7 +69,7 @@ returns-2 c =
     ∙ signed-not (args .n) (rw (back start) at (far .before .if1 .left)) in
     let left = number .decimal2 .last .1 .0 in
     subst (λ (p : List ℕ). Written (args .at) p (args .out .now) left (number .decimal2 .result)) text
-    (number .decimal2 .ensures)
+    (number .decimal2 .ensures .0)
 
 pub signed-spec : {M : Type 1} → statement M
 signed-spec =
