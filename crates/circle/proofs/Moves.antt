@@ -3,6 +3,8 @@
 --     found-some      where the found 1 is, by the shape
 --     has01-none, has01-some     ones and zeros alone have no 01, and with a 1 after them they have
 --     isSchedule-plays     a list of these counts is a schedule exactly if it plays
+--     moves-last, moves-behind     whether the beat after the found 1 moves: not where there is none, and else exactly
+--                     if what it leads to plays
 --     next-moves      the next form of a schedule is what the rule makes of it
 -- Assumes nothing.
 use mathlib.Core.Bool.{Bool, true, false, false≢true, cond, and-eq-true-iff}
@@ -186,23 +188,27 @@ module _ (w : List ℕ) where
   moved-zeros zero a = omega (arith, zeros-append w (1 ∷ a), zeros-append w (1 ∷ 0 ∷ a))
   moved-zeros (suc x) a = omega (arith, zeros-append w (1 ∷ a), zeros-append w (1 ∷ suc x ∷ a))
 
-  next-mid : (x : ℕ) (a : List ℕ) → found (1 ∷ (w ++ 1 ∷ x ∷ a)) ≡ suc (suc (length w))
-      → next (1 ∷ (w ++ 1 ∷ x ∷ a))
-      ≡ cond (plays 0 (1 ∷ x ∷ (w ++ 1 ∷ a))) (1 ∷ x ∷ (w ++ 1 ∷ a)) (1 ∷ 1 ∷ (w ++ x ∷ a))
-  unfolding next has01 movesNext
-  next-mid x a e =
+  moves-mid : (x : ℕ) (a : List ℕ) → found (1 ∷ (w ++ 1 ∷ x ∷ a)) ≡ suc (suc (length w))
+      → movesNext (1 ∷ (w ++ 1 ∷ x ∷ a)) ≡ plays 0 (1 ∷ x ∷ (w ++ 1 ∷ a))
+  unfolding movesNext
+  moves-mid x a e =
       let b : List ℕ = 1 ∷ (w ++ 1 ∷ x ∷ a) in
       let n = length-append w (1 ∷ x ∷ a) in
       rw (
         e,
-        shift-at w 1 (x ∷ a),
         shift-behind w x a,
         isSchedule-plays (ones b) (zeros b) (1 ∷ x ∷ (w ++ 1 ∷ a)) (moved-ones x a) (moved-zeros x a),
       )
-      (simp (
-        le-leb (suc (suc (length w))) (suc (length (w ++ 1 ∷ x ∷ a))) (omega arith),
-        le-leb (suc (suc (suc (length w)))) (suc (length (w ++ 1 ∷ x ∷ a))) (omega arith),
-      ))
+      (simp (le-leb (suc (suc (suc (length w)))) (suc (length (w ++ 1 ∷ x ∷ a))) (omega arith)))
+
+  next-mid : (x : ℕ) (a : List ℕ) → found (1 ∷ (w ++ 1 ∷ x ∷ a)) ≡ suc (suc (length w))
+      → next (1 ∷ (w ++ 1 ∷ x ∷ a))
+      ≡ cond (plays 0 (1 ∷ x ∷ (w ++ 1 ∷ a))) (1 ∷ x ∷ (w ++ 1 ∷ a)) (1 ∷ 1 ∷ (w ++ x ∷ a))
+  unfolding next has01
+  next-mid x a e =
+      let n = length-append w (1 ∷ x ∷ a) in
+      rw (moves-mid x a e, e, shift-at w 1 (x ∷ a), shift-behind w x a)
+      (simp (le-leb (suc (suc (length w))) (suc (length (w ++ 1 ∷ x ∷ a))) (omega arith)))
 
 -- the same, by the shape
 module _ (p q : ℕ) where
@@ -211,6 +217,23 @@ module _ (p q : ℕ) where
   found-front z =
       ap (λ (l : List ℕ). found (1 ∷ l)) (shape-join p (suc q) (1 ∷ z))
       ∙ omega (arith, found-some (suc p) q z, shape-length p (suc q) [])
+
+  pub moves-last : movesNext (ups (suc p) (downs (suc q) (1 ∷ []))) ≡ false
+  unfolding movesNext
+  moves-last =
+      let b = ups (suc p) (downs (suc q) (1 ∷ [])) in
+      simp (lt-leb (suc (found b)) (length b) (omega (
+        arith,
+        found-some (suc p) q [],
+        shape-length (suc p) (suc q) (1 ∷ []),
+      )))
+
+  pub moves-behind : (x : ℕ) (a : List ℕ)
+      → movesNext (ups (suc p) (downs (suc q) (1 ∷ x ∷ a))) ≡ plays 0 (1 ∷ x ∷ ups p (downs (suc q) (1 ∷ a)))
+  moves-behind x a =
+      ap (λ (l : List ℕ). movesNext (1 ∷ l)) (sym (shape-join p (suc q) (1 ∷ x ∷ a)))
+      ∙ moves-mid (ups p (downs (suc q) [])) x a (found-front (x ∷ a))
+      ∙ simp shape-join
 
   pub next-closes : next (ups (suc p) (downs (suc q) (1 ∷ []))) ≡ ups (suc (suc p)) (downs (suc q) [])
   next-closes =

@@ -1,6 +1,7 @@
 -- The step by stores: y is the leftmost 0, x the 1 of the leftmost 0 followed by 1.
 --     Found, find, found-order  what the two scans of the step find, by the shape
 --     set-ups, set-downs        a store behind ones, or behind zeros
+--     behind                    the beat after the found 1, by the shape
 --     plan-stays, plan-alone, plan-turns, plan-swaps, plan-dips     each plan of the code is the rule's next form
 -- Assumes nothing.
 use mathlib.Core.Bool.{Bool, true, false, false≢true, cond}
@@ -157,7 +158,7 @@ planned {b} {c} {d} m e inside makes is counts =
     (record { inside = inside; makes = makes ∙ sym is; counts = counts ∙ ap (changed c) (sym is) })
 
 -- the beat after the found 1
-behind : (b : List ℕ) (x p q : ℕ) (z : List ℕ) → b ≡ ups (suc p) (downs (suc q) (1 ∷ z)) → x ≡ suc p + suc q
+pub behind : (b : List ℕ) (x p q : ℕ) (z : List ℕ) → b ≡ ups (suc p) (downs (suc q) (1 ∷ z)) → x ≡ suc p + suc q
     → getD b (x + 1) 0 ≡ getD z 0 0
 behind b x p q z e ex =
     ap (λ (l : List ℕ). getD l (x + 1) 0) e

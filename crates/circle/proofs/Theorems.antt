@@ -6,7 +6,8 @@
 --     dip-means, means-dip  a dip sets down at its second beat and is not the form after t ones and s zeros [D3e]
 --     step-changes          from two ones and one zero on, a step changes 2 beats, and 4 exactly if it
 --                           arrives at a dip [D3d] [O1b]
---     one-form              with at most one 1 or no zeros there is one form, and [O1c]
+--     N-one                 with at most one 1 or no zeros N(t, s) is 1, so that [O1c]
+--     one-form              there is one form, and [O1c]
 --     one-form-changes      a step changes none [O1c]
 --     stretch-changes       k steps change 2k beats and two more for each dip [D3e]
 --     round-changes         a round changes 2·N(t, s) + 2·N(t−1, s−1) − 2 beats [D3f]
@@ -99,7 +100,7 @@ module _ {t s : ℕ} (two : 2 ≤ t) (one : 1 ≤ s) where
         by (suc t) zero h k q = absurd (omega arith)
         by (suc t) (suc s) h k q = rw (sub-one (suc t), sub-one (suc s)) (round-worked t s q h)
 
-N-one : (t s : ℕ) → s ≤ t → (t ≤ 1) ⊎ (s ≡ 0) → N t s ≡ 1
+pub N-one : (t s : ℕ) → s ≤ t → (t ≤ 1) ⊎ (s ≡ 0) → N t s ≡ 1
 N-one t zero h k = N-zero t
 N-one zero (suc s) h k = absurd (omega arith)
 N-one (suc zero) (suc zero) h k =

@@ -44,6 +44,7 @@ use Rattle.record.specs.Record.{
   recordOf,
   writeRows,
 }
+use Rattle.reader.proofs.Sixes.{read-sixes}
 use Rattle.reader.proofs.Verdicts.{told-verdict}
 use Rattle.demands.specs.Calls.{
   Call,
@@ -126,33 +127,6 @@ tree-sixes : (n : ℕ) (b l r p : List ℕ) → All (Six (Off n b)) (treeRows n 
 tree-sixes n b l r p =
     let sizes = lentRows n b l r p in
     all-join (Six (Off n b)) sizes (playRows n b) (sixless-all (Off n b) sizes refl) (play-sixes n b)
-
--- how far the ones are off that kind 2 packs, by the layout of a record
-abbrev PackedOff : Layout → List ℕ → ℤ → Type 0
-PackedOff k src =
-    let at = countsAt k in
-    Off (upsAt at src) (unpacked (upsAt at src + downsAt at src) (bodyAt at src))
-
-kind-sixes : (k : Layout) (src : List ℕ) → All (Six (PackedOff k src)) (kindRows k src)
-kind-sixes (Layout.Numbered at) src =
-    sixless-all (PackedOff (Layout.Numbered at) src) (kindRows (Layout.Numbered at) src) refl
-kind-sixes (Layout.Beaten at) src =
-    let t = upsAt at src in
-    let s = downsAt at src in
-    let packed-in = Six (PackedOff (Layout.Beaten at) src) in
-    let hand = hand-sixes t (unpacked (t + s) (bodyAt at src)) in
-    let counts = sixless-all (PackedOff (Layout.Beaten at) src) (countRows t s) refl in (
-      λ so six. absurd (omega arith),
-      all-join packed-in (countRows t s) (packedRows t s (bodyAt at src)) counts
-          (λ so six. absurd (omega arith), hand),
-    )
-kind-sixes Layout.Unknown src = sixless-all (PackedOff Layout.Unknown src) (kindRows Layout.Unknown src) refl
-
-read-sixes : (room : ℕ) (src : List ℕ) → All (Six (PackedOff (layoutIn src) src)) (readRows room src)
-read-sixes room src =
-    let k = layoutIn src in
-    let head = sixless-all (PackedOff k src) (headRows room src) refl in
-    all-join (Six (PackedOff k src)) (headRows room src) (kindRows k src) head (kind-sixes k src)
 
 tree-six : {n : ℕ} {b l r p l′ r′ p′ : List ℕ} {v : Verdict} → Treed n b l r p v l′ r′ p′ → refusal v ≡ 6
     → (t : ℕ) × (a : List ℕ) × About (tree n b l r p) t a × Off t a (surplus v)

@@ -4,5 +4,6 @@ pub mod Answering
 pub mod Unpacking
 pub mod Parts
 pub mod Meaning
+pub mod Sixes
 pub mod Theorems
 pub mod Cases

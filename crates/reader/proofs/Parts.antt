@@ -2,7 +2,8 @@
 --     parts-of             the length, the kind, the counts and the payload of a record that was written
 --     six                  a slice of six bytes and more, by its first six
 --     unused-packed        packed beats leave no unused bit set [B1]
---     read-facts           what an accepted slice has: room, a whole record, a known kind, and the rows of the kind
+--     head-facts           what a slice has that passes the head's rows: room, a whole record, a known kind
+--     read-facts           what an accepted slice has: that, and the rows of the kind
 -- Assumes nothing.
 use mathlib.Core.Bool.{false}
 use mathlib.Core.List.{List, [], _∷_, _++_, List·Memᴰ·head, List·Memᴰ·tail}
@@ -85,15 +86,19 @@ unused-packed b = elim (ℕ-discrete (length b % 8) 0) [ yes e ↦ none e | no m
         ∙ mul-mod-right (2 ^ (8 - length b % 8)) (spell (length b % 8) c)
 
 module _ (room : ℕ) (src : List ℕ) where
-  pub read-facts : judge (readRows room src) ≡ Verdict.Accepted
+  pub head-facts : judge (headRows room src) ≡ Verdict.Accepted
       → (mostBeats ≤ room) × (cut src ≡ false) × (2 ≤ long src) × (isUnknown (layoutIn src) ≡ false)
-      × (judge (kindRows (layoutIn src) src) ≡ Verdict.Accepted)
-  read-facts e =
-      let front = judge-front (headRows room src) (kindRows (layoutIn src) src) e in
+  head-facts front =
       let none = accepted-none (headRows room src) front in (
         ltb-false room mostBeats (none _ (List·Memᴰ·head refl)),
         none _ (List·Memᴰ·tail (List·Memᴰ·head refl)),
         ltb-false (long src) 2 (none _ (List·Memᴰ·tail (List·Memᴰ·tail (List·Memᴰ·head refl)))),
         none _ (List·Memᴰ·tail (List·Memᴰ·tail (List·Memᴰ·tail (List·Memᴰ·head refl)))),
-        judge-back (headRows room src) (kindRows (layoutIn src) src) e,
       )
+
+  pub read-facts : judge (readRows room src) ≡ Verdict.Accepted
+      → (mostBeats ≤ room) × (cut src ≡ false) × (2 ≤ long src) × (isUnknown (layoutIn src) ≡ false)
+      × (judge (kindRows (layoutIn src) src) ≡ Verdict.Accepted)
+  read-facts e =
+      let head = head-facts (judge-front (headRows room src) (kindRows (layoutIn src) src) e) in
+      (head .0, head .1, head .2, head .3, judge-back (headRows room src) (kindRows (layoutIn src) src) e)

@@ -8,6 +8,7 @@
 --     same-refusal        number, place and surplus say which refusal it is [R2]
 --     Six, six-given      where every row that refuses 6 has a surplus of which P holds, so has the verdict
 --     sixless, sixless-all     an order without such a row, which a test tells
+--     past-sixless        so where an order refuses 6, none of its first rows that are without such a row holds
 --     surplus-else        a verdict that does not answer 6 has the surplus 0 [Q2]
 --     verdict-answer      an answer has the verdict that it was made from
 --     answer-refused, answer-value     what an answer says of the verdict that it was made from
@@ -53,7 +54,7 @@ use Rattle.refusal.specs.declared.Verdict.{Verdict}
 use Rattle.refusal.specs.Refusal.{refusalNumber, refusalPlace, refusalSurplus}
 use Rattle.refusal.specs.Answer.{refusal, surplus, verdict, answer}
 use Rattle.refusal.specs.Rows.{Row, _⇒_, judge, test}
-use Rattle.refusal.proofs.Rows.{All, given}
+use Rattle.refusal.proofs.Rows.{judge-refused, All, given}
 
 pub record Given (l : List Row) (why : Refusal) : Type 0 where
   pub front : List Row
@@ -161,6 +162,14 @@ sixless-all P ((holds ⇒ why) ∷ rows) e =
     let other : refusalNumber why ≡ 6 → ⊥ =
     λ six. true≢false (sym (both .0) ∙ ap not (eq-eqb (refusalNumber why) 6 six)) in
     (λ so six. absurd (other six), sixless-all P rows (both .1))
+
+pub past-sixless : (l m : List Row) → sixless l ≡ true → refusal (judge (l ++ m)) ≡ 6 → judge l ≡ Verdict.Accepted
+past-sixless l m free six = by (judge l) refl
+  where
+    by : (v : Verdict) → judge l ≡ v → judge l ≡ Verdict.Accepted
+    by Verdict.Accepted e = e
+    by (Verdict.Refused why) e =
+        absurd (six-given (λ z. ⊥) l (sixless-all (λ z. ⊥) l free) (ap refusal (e ∙ sym (judge-refused l m why e)) ∙ six))
 
 pub surplus-else : (v : Verdict) → (refusal v ≡ 6 → ⊥) → surplus v ≡ pos 0
 surplus-else Verdict.Accepted other = refl

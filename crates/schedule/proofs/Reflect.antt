@@ -1,4 +1,7 @@
 -- The tests of specs/Check.antt and the facts of specs/Meaning.antt and specs/Schedule.antt that they decide.
+--     computed-first, first-computed         the first number at which a test holds that decides a fact is the first
+--                                            of which the fact holds
+--     nowhere-computed, computed-nowhere     and there is none of which it holds exactly if there is none such
 --     bad-first, bare-first             the place that is computed is the first such beat
 --     first-bad, first-bare             and the first such beat is the place that is computed
 --     passed-no-bad, passed-no-bare     where the length is computed there is no such beat
@@ -33,7 +36,7 @@ module _ (f : ℕ → Bool) (P : ℕ → Type 0) (decides : (k : ℕ) → P k �
       by true e = absurd (p (decides k .1 e))
       by false e = e
 
-  computed-first : first f n < n → First P n (first f n)
+  pub computed-first : first f n < n → First P n (first f n)
   computed-first h =
       record {
         inside = h;
@@ -41,13 +44,13 @@ module _ (f : ℕ → Bool) (P : ℕ → Type 0) (decides : (k : ℕ) → P k �
         before = λ j l p. true≢false (sym (decides j .0 p) ∙ first-before f n j l);
       }
 
-  first-computed : (k : ℕ) → First P n k → first f n ≡ k
+  pub first-computed : (k : ℕ) → First P n k → first f n ≡ k
   first-computed k p = first-is f n k (p .inside) (decides k .0 (p .holds)) (λ j l. unholds j (p .before j l))
 
-  nowhere-computed : Nowhere P n → n ≤ first f n
+  pub nowhere-computed : Nowhere P n → n ≤ first f n
   nowhere-computed p = omega (arith, first-none f n (λ j l. unholds j (p j l)))
 
-  computed-nowhere : n ≤ first f n → Nowhere P n
+  pub computed-nowhere : n ≤ first f n → Nowhere P n
   computed-nowhere h k l p = true≢false (sym (decides k .0 p) ∙ first-before f n k (omega arith))
 
 bad-decides : (b : List ℕ) (k : ℕ) → Bad b k ↔ (isBad b k ≡ true)

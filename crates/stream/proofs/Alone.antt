@@ -3,7 +3,8 @@
 --     whole-goes       any other record is passed over whole, and the list goes on
 --     verdict-alone    what follows a settled record does not change the verdict on it
 --     passed-alone     nor the bytes to pass over
---     parts-alone      nor, where it is accepted, its kind, its counts and its body
+--     parts-alone      nor the kind, the counts and the body of a whole record whose L reaches past its counts, and so
+--     accepted-alone   of one that is accepted
 -- Assumes nothing.
 use mathlib.Core.Bool.{Bool, true, false, true≢false}
 use mathlib.Core.List.{List, _++_}
@@ -203,16 +204,20 @@ module _ (src more : List ℕ) where
         by Verdict.Accepted = ap (λ (l : ℕ). 2 + l) (long-same (settled-whole src e .0))
         by (Verdict.Refused why) = ap (eaten why) (long-same (settled-whole src e .0))
 
-  pub parts-alone : verdictOn src ≡ Verdict.Accepted
+  pub parts-alone : cut src ≡ false → 2 ≤ long src → countsAt (layoutIn src) ≤ long src
       → (layoutIn both ≡ layoutIn src) × (ups both ≡ ups src) × (downs both ≡ downs src) × (body both ≡ body src)
-  parts-alone r =
-      let facts = read-facts mostBeats src r in
-      let reaches = whole-long src (facts .1) .1 in
-      let inside = kind-reaches src (layoutIn src) (facts .3) (facts .4) in
+  parts-alone here some inside =
+      let reaches = whole-long src here .1 in
       let at = countsAt (layoutIn src) in
-      let same = kind-same (omega (arith, facts .2, reaches)) in (
+      let same = kind-same (omega (arith, some, reaches)) in (
         same,
         ap (λ (k : Layout). upsAt (countsAt k) both) same ∙ ups-same at inside reaches,
         ap (λ (k : Layout). downsAt (countsAt k) both) same ∙ downs-same at inside reaches,
         ap (λ (k : Layout). bodyAt (countsAt k) both) same ∙ body-same at inside reaches,
       )
+
+  pub accepted-alone : verdictOn src ≡ Verdict.Accepted
+      → (layoutIn both ≡ layoutIn src) × (ups both ≡ ups src) × (downs both ≡ downs src) × (body both ≡ body src)
+  accepted-alone r =
+      let facts = read-facts mostBeats src r in
+      parts-alone (facts .1) (facts .2) (kind-reaches src (layoutIn src) (facts .3) (facts .4))
