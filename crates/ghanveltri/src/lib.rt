@@ -1,26 +1,30 @@
 // The library for a C host: the manual, "What we ship". Each function here is a C function on 64-bit
 // numbers and lent bytes, a slice being its pointer and then its length. A call answers one number: the
-// refusal, the place, the surplus and the value of check, count and number are asked for by a call each; form, the
-// steps and the runs, on and back, answer their refusal, and what a step or a run would change comes from
-// calls that write nothing. Nothing is kept from call to call. The contracts cite the definitions of the
-// crates below, each by an equation. [W3] [F4] [P13] [D1a] [P1]
+// refusal, the place, the surplus and the value of check, count and number are asked for by a call each, and so is each
+// part of an explanation; form, the steps and the runs, on and back, answer their refusal, and what a step or a run
+// would change comes from calls that write nothing. Nothing is kept from call to call. The contracts cite the
+// definitions of the crates below, each by an equation. [W3] [F4] [P13] [D1a] [P1]
 ghost use mathlib.Core.Path.{_≡_};
 ghost use Prim.Native.Nat.{_≤_};
+ghost use lib.ListN.{getD};
 ghost use Rattle.form.specs.Answers.{formVerdict, formLeft};
 ghost use Rattle.refusal.specs.Answer.{refusal, place, surplus, verdict, value};
 ghost use Rattle.counts.specs.Counts.{counting};
 ghost use Rattle.schedule.specs.Check.{checked};
 ghost use Rattle.circle.specs.Answers.{nextAnswer, nextLeft, runAnswer, runLeft};
 ghost use Rattle.circle_back.specs.Answers.{previousAnswer, previousLeft, runBackAnswer, runBackLeft};
+ghost use Rattle.reason.specs.Explanation.{noPlace};
+ghost use Rattle.reason.specs.Answers.{explained};
 ghost use Rattle.number.specs.Answers.{numberAnswer};
+use lists::Which;
 
-// The version, 1.3.0: major * 1000000 + minor * 1000 + patch.
-const VERSION: u64 = 1003000;
+// The version, 1.4.0: major * 1000000 + minor * 1000 + patch.
+const VERSION: u64 = 1004000;
 
 // The version of the library.
 #[no_mangle]
 pub extern "C" fn gv_version() -> u64
-    ensures { λ r. ⌜ r ≡ 1003000 ⌝ }
+    ensures { λ r. ⌜ r ≡ 1004000 ⌝ }
 {
     VERSION
 }
@@ -204,6 +208,43 @@ pub extern "C" fn gv_run_back_changed(t: u64, s: u64, beats: &[u8], steps: u64) 
     circle_back::run_back_changed(t, s, beats, steps).value()
 }
 
+// The case of the rule that says why gv_next would move a beat, 1 to 4; 0 where it refuses.
+#[no_mangle]
+// [X5]
+pub extern "C" fn gv_explain_case(t: u64, s: u64, beats: &[u8]) -> u64
+    ensures { λ r. ⌜ r ≡ explained t s (now (beats .entry)) .case ⌝ }
+{
+    reason::explain(t, s, beats).case()
+}
+
+// The place of the found 1; the largest number where the case has none, and where gv_next refuses.
+#[no_mangle]
+// [X5]
+pub extern "C" fn gv_explain_found(t: u64, s: u64, beats: &[u8]) -> u64
+    ensures { λ r. ⌜ r ≡ getD (explained t s (now (beats .entry)) .found) 0 noPlace ⌝ }
+{
+    reason::explain(t, s, beats).found()
+}
+
+// The place of the beat that gv_next would move to the second place; the largest number where there is none.
+#[no_mangle]
+// [X5]
+pub extern "C" fn gv_explain_moved(t: u64, s: u64, beats: &[u8]) -> u64
+    ensures { λ r. ⌜ r ≡ getD (explained t s (now (beats .entry)) .moved) 0 noPlace ⌝ }
+{
+    reason::explain(t, s, beats).moved()
+}
+
+// A place at which gv_next would change a beat, by its index among them, ascending, from 0 on; the largest number
+// where there are not so many.
+#[no_mangle]
+// [X5]
+pub extern "C" fn gv_explain_changed_place(t: u64, s: u64, beats: &[u8], which: u64) -> u64
+    ensures { λ r. ⌜ r ≡ getD (explained t s (now (beats .entry)) .changed) which noPlace ⌝ }
+{
+    reason::explain(t, s, beats).changed(which)
+}
+
 // Lists the order records of one descriptor to another as the packing list does, to the end of the input or
 // after a 9: 0 where all was listed, 1 where reading failed, 2 where writing failed. [E18]
 #[no_mangle]
@@ -211,5 +252,14 @@ pub extern "C" fn gv_run_back_changed(t: u64, s: u64, beats: &[u8], steps: u64) 
 pub extern "C" fn gv_packing_list(from: i32, to: i32) -> u64
     ensures { λ r. ⌜ r ≤ 2 ⌝ }
 {
-    packing::list_all(from, to)
+    lists::list_all(Which::Packing, from, to)
+}
+
+// The same of the list that explains each record.
+#[no_mangle]
+// [X10]
+pub extern "C" fn gv_explain_list(from: i32, to: i32) -> u64
+    ensures { λ r. ⌜ r ≤ 2 ⌝ }
+{
+    lists::list_all(Which::Explaining, from, to)
 }

@@ -1,5 +1,5 @@
 -- The definitions of specs/ on small inputs, by computing them: the lines of the manual's four records [E4] and their
--- neighbours, the whole list of the four, and what the program's buffers and turns may be. Assumes nothing.
+-- neighbours, the whole lists of the four, and what the program's buffers and turns may be. Assumes nothing.
 use mathlib.Core.Bool.{true}
 use mathlib.Core.List.{List, [], _∷_, _++_}
 use mathlib.Core.Path.{_≡_, refl}
@@ -15,47 +15,62 @@ use Rattle.schedule.specs.Schedule.{ones, zeros, isSchedule}
 use Rattle.circle.specs.Step.{shift, found, has01, movesNext, next}
 use Rattle.circle.specs.Walk.{steps, changed}
 use Rattle.record.specs.Bytes.{valueOf, tabulate}
+use Rattle.reason.specs.Explanation.{differingFrom, explanationOf}
 use Rattle.line.specs.Line.{beatText}
+use Rattle.reason_line.specs.Line.{placesText}
 use Rattle.stream.specs.declared.Front.{Front}
 use Rattle.stream.specs.declared.Stream.{Stream}
 use Rattle.stream.specs.Stream.{listFrom}
 use Rattle.stream.specs.Exchange.{begun, fed, finished}
 use Rattle.stream.specs.Pass.{rests}
-use Rattle.packing.specs.Listed.{text, lineOf, packingList, widest, Buffers, Turned}
+use Rattle.lists.specs.declared.Which.{Which}
+use Rattle.lists.specs.Listed.{
+  formIn,
+  onesIn,
+  acceptedText,
+  refusedIn,
+  text,
+  lineOf,
+  packingList,
+  explanations,
+  widest,
+  Buffers,
+  Turned,
+}
 
 -- 3 2 2 11010 [E4]
-first : lineOf (12 ∷ 0 ∷ 1 ∷ 0 ∷ 3 ∷ 2 ∷ 2 ∷ 0 ∷ 0 ∷ 0 ∷ 0 ∷ 0 ∷ 0 ∷ 0 ∷ [])
+first : lineOf Which.Packing (12 ∷ 0 ∷ 1 ∷ 0 ∷ 3 ∷ 2 ∷ 2 ∷ 0 ∷ 0 ∷ 0 ∷ 0 ∷ 0 ∷ 0 ∷ 0 ∷ [])
     ≡ 51 ∷ 32 ∷ 50 ∷ 32 ∷ 50 ∷ 32 ∷ 49 ∷ 49 ∷ 48 ∷ 49 ∷ 48 ∷ 10 ∷ []
 unfolding valueOf N digits decimal beatText every firstFrom ones zeros isSchedule shift found has01 movesNext next steps
 first = refl
 
 -- 3 2 3 10101 [E4]
-second : lineOf (5 ∷ 0 ∷ 2 ∷ 0 ∷ 3 ∷ 2 ∷ 168 ∷ [])
+second : lineOf Which.Packing (5 ∷ 0 ∷ 2 ∷ 0 ∷ 3 ∷ 2 ∷ 168 ∷ [])
     ≡ 51 ∷ 32 ∷ 50 ∷ 32 ∷ 51 ∷ 32 ∷ 49 ∷ 48 ∷ 49 ∷ 48 ∷ 49 ∷ 10 ∷ []
 unfolding valueOf tabulate N digits decimal beatText every firstFrom ones zeros isSchedule shift found has01 movesNext
     next steps changed
 second = refl
 
 -- refused 7 0 0 [E4]
-third : lineOf (12 ∷ 0 ∷ 1 ∷ 0 ∷ 3 ∷ 2 ∷ 5 ∷ 0 ∷ 0 ∷ 0 ∷ 0 ∷ 0 ∷ 0 ∷ 0 ∷ [])
+third : lineOf Which.Packing (12 ∷ 0 ∷ 1 ∷ 0 ∷ 3 ∷ 2 ∷ 5 ∷ 0 ∷ 0 ∷ 0 ∷ 0 ∷ 0 ∷ 0 ∷ 0 ∷ [])
     ≡ 114 ∷ 101 ∷ 102 ∷ 117 ∷ 115 ∷ 101 ∷ 100 ∷ 32 ∷ 55 ∷ 32 ∷ 48 ∷ 32 ∷ 48 ∷ 10 ∷ []
 unfolding valueOf N digits decimal
 third = refl
 
 -- refused 6 0 -1: kind 2, with 1010 for (3,1) [Q6]
-one-missing : lineOf (5 ∷ 0 ∷ 2 ∷ 0 ∷ 3 ∷ 1 ∷ 160 ∷ [])
+one-missing : lineOf Which.Packing (5 ∷ 0 ∷ 2 ∷ 0 ∷ 3 ∷ 1 ∷ 160 ∷ [])
     ≡ 114 ∷ 101 ∷ 102 ∷ 117 ∷ 115 ∷ 101 ∷ 100 ∷ 32 ∷ 54 ∷ 32 ∷ 48 ∷ 32 ∷ 45 ∷ 49 ∷ 10 ∷ []
 unfolding valueOf tabulate N digits decimal every firstFrom ones zeros
 one-missing = refl
 
 -- 1 1 0 10 [E4]
-fourth : lineOf (12 ∷ 0 ∷ 1 ∷ 0 ∷ 1 ∷ 1 ∷ 0 ∷ 0 ∷ 0 ∷ 0 ∷ 0 ∷ 0 ∷ 0 ∷ 0 ∷ [])
+fourth : lineOf Which.Packing (12 ∷ 0 ∷ 1 ∷ 0 ∷ 1 ∷ 1 ∷ 0 ∷ 0 ∷ 0 ∷ 0 ∷ 0 ∷ 0 ∷ 0 ∷ 0 ∷ [])
     ≡ 49 ∷ 32 ∷ 49 ∷ 32 ∷ 48 ∷ 32 ∷ 49 ∷ 48 ∷ 10 ∷ []
 unfolding valueOf N digits decimal beatText every firstFrom ones zeros isSchedule shift found has01 movesNext next steps
 fourth = refl
 
 -- the empty schedule prints as -: 0 0 0 - [E4]
-empty : lineOf (4 ∷ 0 ∷ 2 ∷ 0 ∷ 0 ∷ 0 ∷ []) ≡ 48 ∷ 32 ∷ 48 ∷ 32 ∷ 48 ∷ 32 ∷ 45 ∷ 10 ∷ []
+empty : lineOf Which.Packing (4 ∷ 0 ∷ 2 ∷ 0 ∷ 0 ∷ 0 ∷ []) ≡ 48 ∷ 32 ∷ 48 ∷ 32 ∷ 48 ∷ 32 ∷ 45 ∷ 10 ∷ []
 unfolding valueOf tabulate N digits decimal beatText every firstFrom ones zeros isSchedule shift found has01 movesNext
     next steps changed
 empty = refl
@@ -88,6 +103,76 @@ unfolding listFrom valueOf tabulate N digits decimal beatText every firstFrom on
     movesNext next steps changed
 cut-list = refl
 
+-- the explanation of number 2 of (3,2), 11010: 3 3 4 1 2 3 4 [X9]
+explained-first : lineOf Which.Explaining (12 ∷ 0 ∷ 1 ∷ 0 ∷ 3 ∷ 2 ∷ 2 ∷ 0 ∷ 0 ∷ 0 ∷ 0 ∷ 0 ∷ 0 ∷ 0 ∷ [])
+    ≡ 51 ∷ 32 ∷ 51 ∷ 32 ∷ 52 ∷ 32 ∷ 49 ∷ 32 ∷ 50 ∷ 32 ∷ 51 ∷ 32 ∷ 52 ∷ 10 ∷ []
+unfolding valueOf tabulate N digits decimal every firstFrom ones zeros isSchedule shift found has01 movesNext next steps
+    changed differingFrom explanationOf placesText
+explained-first = refl
+
+-- that of 10101: 4 2 2 1 2
+explained-second : lineOf Which.Explaining (5 ∷ 0 ∷ 2 ∷ 0 ∷ 3 ∷ 2 ∷ 168 ∷ [])
+    ≡ 52 ∷ 32 ∷ 50 ∷ 32 ∷ 50 ∷ 32 ∷ 49 ∷ 32 ∷ 50 ∷ 10 ∷ []
+unfolding valueOf tabulate N digits decimal every firstFrom ones zeros isSchedule shift found has01 movesNext next steps
+    changed differingFrom explanationOf placesText
+explained-second = refl
+
+-- a number that no form has is refused as in the packing list
+explained-third : lineOf Which.Explaining (12 ∷ 0 ∷ 1 ∷ 0 ∷ 3 ∷ 2 ∷ 5 ∷ 0 ∷ 0 ∷ 0 ∷ 0 ∷ 0 ∷ 0 ∷ 0 ∷ [])
+    ≡ 114 ∷ 101 ∷ 102 ∷ 117 ∷ 115 ∷ 101 ∷ 100 ∷ 32 ∷ 55 ∷ 32 ∷ 48 ∷ 32 ∷ 48 ∷ 10 ∷ []
+unfolding valueOf tabulate N digits decimal every firstFrom ones zeros isSchedule shift found has01 movesNext next steps
+    changed differingFrom explanationOf placesText
+explained-third = refl
+
+-- 1010 for (3,1): three ones were asked for, and two are there [X11]
+explained-missing : lineOf Which.Explaining (5 ∷ 0 ∷ 2 ∷ 0 ∷ 3 ∷ 1 ∷ 160 ∷ [])
+    ≡ 114 ∷ 101 ∷ 102 ∷ 117 ∷ 115 ∷ 101 ∷ 100 ∷ 32 ∷ 54 ∷ 32 ∷ 48 ∷ 32 ∷ 45 ∷ 49 ∷ 32 ∷ 51 ∷ 32 ∷ 50 ∷ 10 ∷ []
+unfolding valueOf tabulate N digits decimal every firstFrom ones zeros isSchedule shift found has01 movesNext next steps
+    changed differingFrom explanationOf placesText
+explained-missing = refl
+
+-- 111 for (2,1): two were asked for, and three are there [X11]
+explained-over : lineOf Which.Explaining (5 ∷ 0 ∷ 2 ∷ 0 ∷ 2 ∷ 1 ∷ 224 ∷ [])
+    ≡ 114 ∷ 101 ∷ 102 ∷ 117 ∷ 115 ∷ 101 ∷ 100 ∷ 32 ∷ 54 ∷ 32 ∷ 48 ∷ 32 ∷ 49 ∷ 32 ∷ 50 ∷ 32 ∷ 51 ∷ 10 ∷ []
+unfolding valueOf tabulate N digits decimal every firstFrom ones zeros isSchedule shift found has01 movesNext next steps
+    changed differingFrom explanationOf placesText
+explained-over = refl
+
+-- the empty schedule is the only form of (0,0)
+explained-empty : lineOf Which.Explaining (4 ∷ 0 ∷ 2 ∷ 0 ∷ 0 ∷ 0 ∷ [])
+    ≡ 49 ∷ 32 ∷ 45 ∷ 32 ∷ 45 ∷ 32 ∷ 45 ∷ 10 ∷ []
+unfolding valueOf tabulate N digits decimal every firstFrom ones zeros isSchedule shift found has01 movesNext next steps
+    changed differingFrom explanationOf placesText
+explained-empty = refl
+
+-- the whole list of the manual's four records [X10]
+whole-explained : explanations orders ≡ 51 ∷ 32 ∷ 51 ∷ 32 ∷ 52 ∷ 32 ∷ 49 ∷ 32 ∷ 50 ∷ 32 ∷ 51 ∷ 32 ∷ 52 ∷ 10 ∷ 52 ∷ 32 ∷ 50 ∷ 32 ∷ 50 ∷ 32 ∷ 49 ∷ 32 ∷ 50 ∷ 10 ∷ 114 ∷ 101 ∷ 102 ∷ 117 ∷ 115 ∷ 101 ∷ 100 ∷ 32 ∷ 55 ∷ 32 ∷ 48 ∷ 32 ∷ 48 ∷ 10 ∷ 49 ∷ 32 ∷ 45 ∷ 32 ∷ 45 ∷ 32 ∷ 45 ∷ 10 ∷ []
+unfolding listFrom valueOf tabulate N digits decimal every firstFrom ones zeros isSchedule shift found has01 movesNext
+    next steps changed differingFrom explanationOf placesText
+whole-explained = refl
+
+-- the form of a record, and the ones of the beats that it packs, 10101
+form-in : formIn (5 ∷ 0 ∷ 2 ∷ 0 ∷ 3 ∷ 2 ∷ 168 ∷ []) ≡ 1 ∷ 0 ∷ 1 ∷ 0 ∷ 1 ∷ []
+unfolding valueOf tabulate
+form-in = refl
+
+ones-in : onesIn (5 ∷ 0 ∷ 2 ∷ 0 ∷ 3 ∷ 2 ∷ 168 ∷ []) ≡ 3
+unfolding valueOf tabulate ones
+ones-in = refl
+
+-- the line of 10 in either list
+taken-packing : acceptedText Which.Packing 1 1 0 (1 ∷ 0 ∷ []) ≡ 49 ∷ 32 ∷ 49 ∷ 32 ∷ 48 ∷ 32 ∷ 49 ∷ 48 ∷ 10 ∷ []
+unfolding digits decimal beatText
+taken-packing = refl
+
+taken-explaining : acceptedText Which.Explaining 1 1 0 (1 ∷ 0 ∷ []) ≡ 49 ∷ 32 ∷ 45 ∷ 32 ∷ 45 ∷ 32 ∷ 45 ∷ 10 ∷ []
+unfolding N digits decimal ones zeros explanationOf placesText
+taken-explaining = refl
+
+-- a refusal that is no 6 has one line in both lists
+refused-both : refusedIn Which.Explaining [] NoSuchNumber ≡ refusedIn Which.Packing [] NoSuchNumber
+refused-both = refl
+
 -- buffers that every record and every schedule fit into; one byte less is too little
 large-enough : Buffers (replicate 1022 0) (replicate mostBeats 0)
 large-enough = record { any-record = omega arith; any-beats = refl }
@@ -105,7 +190,7 @@ waits e = let z : _≡_ {A = ℕ} 0 1 = cc in absurd (omega arith)
 abbrev after-the-end : ℕ → Stream
 after-the-end have = record { at = 0; have = have; ended = true; going = true; answer = 0 }
 
-turned-at-the-end : Turned [] [] begun [] (after-the-end 0)
+turned-at-the-end : Turned Which.Packing [] [] begun [] (after-the-end 0)
 unfolding valueOf
 turned-at-the-end = record {
   inside = record { unread = omega arith; held = omega arith };
@@ -117,17 +202,17 @@ turned-at-the-end = record {
   };
 }
 
-turned-out-of-the-buffer : Turned [] [] begun [] (after-the-end 1) → ⊥
+turned-out-of-the-buffer : Turned Which.Packing [] [] begun [] (after-the-end 1) → ⊥
 turned-out-of-the-buffer p = omega (arith, p .inside .held)
 
 -- the line after a verdict: "1 1 0 10", and "refused 7 0 0"
-text-taken : text (5 ∷ 0 ∷ 2 ∷ 0 ∷ 1 ∷ 1 ∷ 128 ∷ []) Verdict.Accepted
+text-taken : text Which.Packing (5 ∷ 0 ∷ 2 ∷ 0 ∷ 1 ∷ 1 ∷ 128 ∷ []) Verdict.Accepted
     ≡ 49 ∷ 32 ∷ 49 ∷ 32 ∷ 48 ∷ 32 ∷ 49 ∷ 48 ∷ 10 ∷ []
 unfolding valueOf tabulate N digits decimal beatText every firstFrom ones zeros isSchedule shift found has01 movesNext
     next steps changed
 text-taken = refl
 
-text-refused : text [] (Verdict.Refused NoSuchNumber)
+text-refused : text Which.Packing [] (Verdict.Refused NoSuchNumber)
     ≡ 114 ∷ 101 ∷ 102 ∷ 117 ∷ 115 ∷ 101 ∷ 100 ∷ 32 ∷ 55 ∷ 32 ∷ 48 ∷ 32 ∷ 48 ∷ 10 ∷ []
 unfolding digits decimal
 text-refused = refl

@@ -1,19 +1,23 @@
 -- From what reading answers to the line that is listed.
 --     Ordered, ordered     what an accepted reading says of the record, and of the beats in the room
 --     turned-down          what a refused reading says of it
+--     six-there            a record that is refused 6 has its kind, and the surplus and t are the ones of its beats
 --     list-accepted, list-refused     the line that was written is the record's
 -- Assumes nothing.
 use mathlib.Core.Bool.{Bool, false}
 use mathlib.Core.List.{List, _++_}
 use mathlib.Core.Path.{_≡_, sym, _∙_, ap, ap₂, subst}
-use Prim.Native.Nat.{ℕ, _+_}
+use Prim.Native.Nat.{ℕ, _+_, _≤_}
 use native.Mathlib.Nat.{zero-add}
+use native.Mathlib.Omega.{arith}
 use lib.Dec.{eqb}
+use lib.IntN.{pos, _+ℤ_}
 use lib.ListN.{length, take, drop}
 use lib.Seq.{take-at}
 use Rattle.refusal.specs.declared.Refusal.{Refusal}
 use Rattle.refusal.specs.declared.Verdict.{Verdict}
-use Rattle.refusal.specs.Refusal.{refusalNumber}
+use Rattle.refusal.specs.Answer.{refusal, surplus}
+use Rattle.refusal.specs.Refusal.{refusalNumber, refusalSurplus}
 use Rattle.refusal.specs.Rows.{judge}
 use Rattle.triangle.specs.Count.{mostBeats}
 use Rattle.counts.specs.Counts.{Allowed}
@@ -24,12 +28,14 @@ use Rattle.record.specs.declared.reading.Reading.{Reading}
 use Rattle.reader.specs.Answers.{told, leftBy, readAnswer, readLeft}
 use Rattle.record.specs.Parts as said
 use Rattle.reader.proofs.Verdicts.{told-verdict}
+use Rattle.reader.proofs.Heads.{whole-long}
+use Rattle.reader.proofs.Sixes.{six-facts, six-off}
 use Rattle.reader.proofs.Meaning.{Means, read-means}
-use Rattle.line.specs.Line.{acceptedLine, refusedLine}
 use Rattle.text.specs.Written.{Written}
 use Rattle.stream.specs.Stream.{verdictOn, passing, passed, ending, ends}
 use Rattle.stream.specs.Pass.{Prints}
-use Rattle.packing.specs.Listed.{text, lineOf}
+use Rattle.lists.specs.declared.Which.{Which}
+use Rattle.lists.specs.Listed.{onesIn, acceptedText, refusedIn, text, lineOf}
 
 module _ (src room : List ℕ) (h : length room ≡ mostBeats) where
   abbrev number : ℕ
@@ -97,31 +103,40 @@ module _ (src room : List ℕ) (h : length room ≡ mostBeats) where
         ap said.consumed (sym (ap (told (ups src) (downs src) number (long src)) (sym refused) ∙ sym answer-is ∙ e)),
       )
 
-module _ (src out : List ℕ) where
+pub six-there : (src : List ℕ) {why : Refusal} → verdictOn src ≡ Verdict.Refused why → refusalNumber why ≡ 6
+    → (4 ≤ length src) × (refusalSurplus why +ℤ pos (ups src) ≡ pos (onesIn src))
+six-there src {why} e six =
+    let given : refusal (judge (readRows mostBeats src)) ≡ 6 = ap refusal e ∙ six in
+    let facts = six-facts mostBeats src given in (
+      omega (arith, whole-long src (facts .0), facts .1),
+      ap (λ (v : Verdict). surplus v +ℤ pos (ups src)) (sym e) ∙ six-off mostBeats src given .sum,
+    )
+
+module _ (which : Which) (src out : List ℕ) where
   -- a line that was written at the front is printed
   as-printed : {consumed bytes : ℕ} {last : Bool} {after : List ℕ} → consumed ≡ passed src → last ≡ ends src
-      → Written 0 (lineOf src) out after bytes
-      → Prints lineOf src out (record { consumed = consumed; bytes = bytes; last = last }) after
+      → Written 0 (lineOf which src) out after bytes
+      → Prints (lineOf which) src out (record { consumed = consumed; bytes = bytes; last = last }) after
   as-printed ec el w = record {
     record-size = ec;
-    line-size = w .end ∙ zero-add (length (lineOf src));
+    line-size = w .end ∙ zero-add (length (lineOf which src));
     ending = el;
-    written = w .text ∙ ap (λ (j : ℕ). lineOf src ++ drop j out) (zero-add (length (lineOf src)));
+    written = w .text ∙ ap (λ (j : ℕ). lineOf which src ++ drop j out) (zero-add (length (lineOf which src)));
   }
 
   pub list-accepted : (room : List ℕ) (h : length room ≡ mostBeats) (o : Order) → Ordered src room h o
       → (u : List ℕ) → u ≡ meant (layoutIn src) (ups src) (downs src) (body src)
-      → {bytes : ℕ} {after : List ℕ} → Written 0 (acceptedLine (o .t) (o .s) (o .number) u) out after bytes
-      → Prints lineOf src out (record { consumed = o .consumed; bytes = bytes; last = false }) after
+      → {bytes : ℕ} {after : List ℕ} → Written 0 (acceptedText which (o .t) (o .s) (o .number) u) out after bytes
+      → Prints (lineOf which) src out (record { consumed = o .consumed; bytes = bytes; last = false }) after
   list-accepted room h o f u e {bytes} {after} w =
       as-printed (f .is-consumed ∙ ap (passing src) (sym (f .taken))) (ap ending (sym (f .taken)))
       (subst (λ (l : List ℕ). Written 0 l out after bytes)
-      (rw (f .is-t, f .is-s, f .is-number, e) (ap (text src) (sym (f .taken)))) w)
+      (rw (f .is-t, f .is-s, f .is-number, e) (ap (text which src) (sym (f .taken)))) w)
 
   pub list-refused : (why : Refusal) → verdictOn src ≡ Verdict.Refused why
       → {consumed number bytes : ℕ} {after : List ℕ}
-      → consumed ≡ eaten why (long src) → number ≡ refusalNumber why → Written 0 (refusedLine why) out after bytes
-      → Prints lineOf src out (record { consumed = consumed; bytes = bytes; last = eqb number 9 }) after
+      → consumed ≡ eaten why (long src) → number ≡ refusalNumber why → Written 0 (refusedIn which src why) out after bytes
+      → Prints (lineOf which) src out (record { consumed = consumed; bytes = bytes; last = eqb number 9 }) after
   list-refused why e {bytes = bytes} {after} ec en w =
       as-printed (ec ∙ ap (passing src) (sym e)) (ap (λ (j : ℕ). eqb j 9) en ∙ ap ending (sym e))
-      (subst (λ (l : List ℕ). Written 0 l out after bytes) (ap (text src) (sym e)) w)
+      (subst (λ (l : List ℕ). Written 0 l out after bytes) (ap (text which src) (sym e)) w)

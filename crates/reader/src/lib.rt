@@ -2,12 +2,16 @@
 // which says what reading answers and leaves by the definitions of `record`; proofs/Theorems says that what was
 // written is read back, and that what is read is written again byte for byte. [P1]
 ghost use mathlib.Core.Path.{_≡_};
+ghost use Prim.Native.Nat.{_≤_};
+ghost use lib.ListN.{length};
 ghost use Rattle.lookup.specs.Lent.{Counts};
+ghost use Rattle.record.specs.Record.{ups};
 ghost use Rattle.reader.specs.Answers.{readAnswer, readLeft};
 use record::Reading;
 use record::layout;
 use record::layout::Layout;
 use refusal::Refusal;
+use schedule::wide;
 use triangle::SIDE;
 
 mod reads;
@@ -25,7 +29,19 @@ pub fn read(src: &[u8], out: &mut [u8]) -> Reading
     read_by(&none, src, out)
 }
 
-// The same, by rows of the table that the caller keeps from call to call. [P13]
+// The ones that the record asks for that a slice starts with, which has its kind: t, as the layout of the kind says
+// where it stands. [X11]
+pub fn asked(src: &[u8]) -> u64
+    requires { ⌜ 4 ≤ length (now src) ⌝ }
+    ensures { λ r. ⌜ r ≡ ups (now (src .entry)) ⌝ }
+    ensures { λ r. ⌜ r ≤ 255 ⌝ }
+{
+    let layout = layout::of_kind(reads::kind(src));
+    let at = layout.counts_at();
+    if at < src.len() { wide(src[at]) } else { 0 }
+}
+
+// The same as read, by rows of the table that the caller keeps from call to call. [P13]
 pub fn read_by(rows: &[[u64; SIDE]], src: &[u8], out: &mut [u8]) -> Reading
     requires { ⌜ Counts (now rows) ⌝ }
     ensures { λ r. ⌜ r ≡ readAnswer (now (src .entry)) (now (out .entry)) ⌝ }

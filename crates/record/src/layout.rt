@@ -1,7 +1,7 @@
 // How each kind of record is laid out: the manual, "Order record". A kind is a row of `of_kind`; `write` and the
 // crate `reader` go by it. The contracts cite specs/Layout. [P1]
 ghost use mathlib.Core.Path.{_≡_};
-ghost use Rattle.record.specs.Layout.{layoutOf};
+ghost use Rattle.record.specs.Layout.{layoutOf, countsAt};
 
 // What a record holds after its counts, and the byte at which the counts stand: t there, s after it.
 pub enum Layout {
@@ -11,6 +11,19 @@ pub enum Layout {
     Beaten(usize),
     // no layout: the kind is unknown
     Unknown,
+}
+
+impl Layout {
+    // The byte at which t stands; 0 where the kind is unknown.
+    pub fn counts_at(self) -> usize
+        ensures { λ r. ⌜ r ≡ countsAt self ⌝ }
+    {
+        match self {
+            Layout::Numbered(at) => at,
+            Layout::Beaten(at) => at,
+            Layout::Unknown => 0,
+        }
+    }
 }
 
 // The bytes of a number.

@@ -4,8 +4,8 @@ use mathlib.Core.Path.{sym, subst}
 use Rattle.lookup.specs.Lent.{Counts}
 use Rattle.lookup.proofs.Lent.{table-counts}
 use borrow.Author.Needs.{needs}
-use Rattle.packing.proofs.list_all.Statement.{statement}
-use Rattle.packing.proofs.list_all.Tie as tie
+use Rattle.lists.proofs.list_all.Statement.{statement}
+use Rattle.lists.proofs.list_all.Tie as tie
 
 large-buffer-requires : tie.Need-large-buffer-requires
 large-buffer-requires c κs = search needs

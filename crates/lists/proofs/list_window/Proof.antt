@@ -13,21 +13,21 @@ use Rattle.stream.specs.declared.Front.{Front}
 use Rattle.stream.specs.Stream.{frontOf}
 use Rattle.stream.specs.Pass.{Passes}
 use Rattle.stream.proofs.Going.{tail, Going, going-start, going-more, going-fits, going-less, going-rests, going-last}
-use Rattle.packing.specs.Listed.{lineOf, widest}
+use Rattle.lists.specs.Listed.{lineOf, widest}
 use borrow.Author.Needs.{needs}
 use borrow.Rule.Slice.PartMut.{putMid, same-len-mid}
 use denote.Enum.Declared.{tagOf}
 use types.Run.{OneOf}
 use Rattle.stream.proofs.Front.{the-type}
-use Rattle.packing.proofs.list_window.Statement.{statement}
-use Rattle.packing.proofs.list_window.Tie as tie
+use Rattle.lists.proofs.list_window.Statement.{statement}
+use Rattle.lists.proofs.list_window.Tie as tie
 
 abbrev Inv-loop : tie.InvT-loop
-Inv-loop counts src ended room₀ text₀ at₀ put₀ room text at put =
-    (length room ≡ length room₀) × Going lineOf widest ended src text₀ at put text
+Inv-loop which counts src ended room₀ text₀ at₀ put₀ room text at put =
+    (length room ≡ length room₀) × Going (lineOf which) widest ended src text₀ at put text
 
 abbrev μ-loop : tie.MeasureT-loop
-μ-loop counts src ended room₀ text₀ at₀ put₀ room text at put = length src - at
+μ-loop which counts src ended room₀ text₀ at₀ put₀ room text at put = length src - at
 
 -- the front is no record where its tag is one of the other two
 no-record : (f : Front) → OneOf (1 ∷ 2 ∷ []) (tagOf the-type f) → f ≡ Front.Record → ⊥
@@ -59,22 +59,25 @@ module _ (c : tie.After-list Inv-loop μ-loop) where
   now = turning .loop .text
 
   abbrev part : List ℕ
-  part = c .list .last .1 .1 .1 .0
+  part = c .list .last .1 .1 .1 .1 .0
 
   abbrev src : List ℕ
   src = start .args .src .now
 
+  abbrev line : List ℕ → List ℕ
+  line = lineOf (start .args .which)
+
   abbrev ended : Bool
   ended = start .args .ended
 
-  going : Going lineOf widest ended src text at put now
+  going : Going line widest ended src text at put now
   going = turning .loop .inv .1
 
   abbrev after : List ℕ
   after = putMid put (length now - put) now part
 
   same : length after ≡ length now
-  same = same-len-mid put (length now - put) now part (c .list .kept .1 .1 .1 .0)
+  same = same-len-mid put (length now - put) now part (c .list .kept .1 .1 .1 .1 .0)
 
   at-record : frontOf ended (tail src at) ≡ Front.Record
   at-record = sym (looked .at-front .ensures) ∙ c .before .before .before .before .before .enum-told .given .1
@@ -83,22 +86,22 @@ module _ (c : tie.After-list Inv-loop μ-loop) where
   wide = omega (arith, c .before .before .before .before .if1 .left, going .long)
 
   fits : put + c .list .result .bytes ≤ length text
-  fits = going-fits lineOf widest ended src text going (c .list .ensures) refl same
+  fits = going-fits line widest ended src text going (c .list .ensures) refl same
 
   ends-here : c .list .result .last ≡ true
-      → Passes lineOf widest ended src text
+      → Passes line widest ended src text
       (record { consumed = at; bytes = put + c .list .result .bytes; front = Front.Over }) after
-  ends-here = going-last lineOf widest ended src text going (c .list .ensures) refl same at-record wide
+  ends-here = going-last line widest ended src text going (c .list .ensures) refl same at-record wide
 
   goes-on : c .list .result .last ≡ false
-      → Going lineOf widest ended src text (at + c .list .result .consumed) (put + c .list .result .bytes) after
-  goes-on = going-more lineOf widest ended src text going (c .list .ensures) refl same at-record wide
+      → Going line widest ended src text (at + c .list .result .consumed) (put + c .list .result .bytes) after
+  goes-on = going-more line widest ended src text going (c .list .ensures) refl same at-record wide
 
   less : c .list .result .last ≡ false → length src - (at + c .list .result .consumed) < length src - at
-  less = going-less lineOf widest ended src text going (c .list .ensures) refl same at-record wide
+  less = going-less line widest ended src text going (c .list .ensures) refl same at-record wide
 
 loop-holds : tie.Need-loop-holds Inv-loop μ-loop
-loop-holds c = (refl, going-start lineOf widest _ _ _)
+loop-holds c = (refl, going-start (lineOf _) widest _ _ _)
 
 sub-at-front : tie.Need-sub-at-front Inv-loop μ-loop
 sub-at-front c = search needs
@@ -125,7 +128,7 @@ returns : tie.Need-returns Inv-loop μ-loop
 returns c =
     let turning = c .before .before .before in
     let start = turning .before .before .before .before in
-    going-rests lineOf widest (start .args .ended) (start .args .src .now) (start .args .text .now)
+    going-rests (lineOf (start .args .which)) widest (start .args .ended) (start .args .src .now) (start .args .text .now)
     (turning .loop .inv .1) (sym (c .before .at-front .ensures))
     (λ e. absurd (no-record (c .before .at-front .result) (c .match .keys2) e))
 
@@ -143,7 +146,7 @@ returns-2 c =
     let looked = c .before .before .before in
     let turning = looked .before .before in
     let start = turning .before .before .before .before in
-    going-rests lineOf widest (start .args .ended) (start .args .src .now) (start .args .text .now)
+    going-rests (lineOf (start .args .which)) widest (start .args .ended) (start .args .src .now) (start .args .text .now)
     (turning .loop .inv .1)
     (sym (looked .at-front .ensures) ∙ c .before .enum-told .given .1)
     (λ e. omega (arith, c .if1 .taken, turning .loop .inv .1 .long))
@@ -175,8 +178,8 @@ list-requires c κs =
     let size = length-take-le (length now - put) (drop put now) (omega (arith, length-drop put now)) in
     (start .pre .0, turning .loop .inv .0 ∙ start .pre .1, omega (arith, size, c .before .before .before .if1 .left))
 
-add-t25 : tie.Need-add-t25 Inv-loop μ-loop
-add-t25 c =
+add-t26 : tie.Need-add-t26 Inv-loop μ-loop
+add-t26 c =
     let listed = c .before .before .before .before .before .before in
     omega (arith, fits listed, start listed .good)
 
@@ -206,7 +209,7 @@ loop-less c = less (c .before .before .before .before .before .before) (c .befor
 loop-again : tie.Need-loop-again Inv-loop μ-loop
 loop-again c =
     let listed = c .before .before .before .before .before .before in
-    (listed .list .kept .1 .1 .0 ∙ turning listed .loop .inv .0, goes-on listed (c .before .if2 .left))
+    (listed .list .kept .1 .1 .1 .0 ∙ turning listed .loop .inv .0, goes-on listed (c .before .if2 .left))
 
 pub list-window-spec : {M : Type 1} → statement M
 list-window-spec =
@@ -234,7 +237,7 @@ list-window-spec =
     part-list-start-2
     part-list-end-2
     list-requires
-    add-t25
+    add-t26
     same-length-5
     same-length-6
     returns-3

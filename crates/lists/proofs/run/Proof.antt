@@ -10,8 +10,8 @@ use Rattle.stream.specs.declared.Stream.{Stream}
 use Rattle.stream.specs.Exchange.{Inside}
 use Rattle.stream.proofs.Stops.{onward-answer}
 use borrow.Author.Needs.{needs}
-use Rattle.packing.proofs.run.Statement.{statement}
-use Rattle.packing.proofs.run.Tie as tie
+use Rattle.lists.proofs.run.Statement.{statement}
+use Rattle.lists.proofs.run.Tie as tie
 
 -- the buffers have the lengths that they had, and the program stands inside them
 record Standing (input₀ room₀ text₀ input room text : List ℕ) (state : Stream) : Type 0 where
@@ -26,11 +26,11 @@ fewer-less turns true h = omega arith
 fewer-less turns false h = h
 
 abbrev Inv-loop : tie.InvT-loop
-Inv-loop counts from to input₀ room₀ text₀ state₀ turns₀ input room text state turns =
+Inv-loop which counts from to input₀ room₀ text₀ state₀ turns₀ input room text state turns =
     Standing input₀ room₀ text₀ input room text state
 
 abbrev μ-loop : tie.MeasureT-loop
-μ-loop counts from to input₀ room₀ text₀ state₀ turns₀ input room text state turns = turns
+μ-loop which counts from to input₀ room₀ text₀ state₀ turns₀ input room text state turns = turns
 
 start-requires : tie.Need-start-requires Inv-loop μ-loop
 start-requires c κs = search needs
@@ -74,9 +74,9 @@ loop-again c =
     let turned = c .before .before .before .before .before .before .before in
     let stands = turned .before .before .before .before .before .loop .inv in
     record {
-      input-kept = turned .turn .kept .1 .1 .1 .0 ∙ stands .input-kept;
-      room-kept = turned .turn .kept .1 .1 .1 .1 .0 ∙ stands .room-kept;
-      text-kept = turned .turn .kept .1 .1 .1 .1 .1 .0 ∙ stands .text-kept;
+      input-kept = turned .turn .kept .1 .1 .1 .1 .0 ∙ stands .input-kept;
+      room-kept = turned .turn .kept .1 .1 .1 .1 .1 .0 ∙ stands .room-kept;
+      text-kept = turned .turn .kept .1 .1 .1 .1 .1 .1 .0 ∙ stands .text-kept;
       inside = turned .turn .ensures .inside;
       answer = onward-answer (turned .turn .ensures .turns .onward);
     }

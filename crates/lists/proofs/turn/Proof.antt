@@ -1,8 +1,8 @@
 -- `turn` meets its contract: a pass, and then an exchange. Assumes nothing.
 use Rattle.stream.proofs.Stops.{ready}
 use borrow.Author.Needs.{needs}
-use Rattle.packing.proofs.turn.Statement.{statement}
-use Rattle.packing.proofs.turn.Tie as tie
+use Rattle.lists.proofs.turn.Statement.{statement}
+use Rattle.lists.proofs.turn.Tie as tie
 
 sub-list-window : tie.Need-sub-list-window
 sub-list-window c = search needs

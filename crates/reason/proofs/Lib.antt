@@ -1,0 +1,5 @@
+pub mod Differing
+pub mod Reasons
+pub mod Changing
+pub mod Rules
+pub mod Theorems
