@@ -2,10 +2,11 @@
 crates/.
 
 What a call is refused for is one value, a Why, and each call passes it on whole: check(t, s, beats) answers it alone,
-count(t, s) and the others before all else. successor(t, s, beats) is the step. form_of(t, s, n) and
-number_of(t, s, beats) are the form of a number and the number of a form, by the groups of source 000's list and not by
-walking. No step is undone: run_back(t, s, beats, k) takes the form of an earlier number and walks on from it.
-tree(n, ..) and schedule_of_tree(n, ..) go by nested pairs, read from the beats or from the tables.
+count(t, s) and the others before all else. successor(t, s, beats) is the form that a step leads to, and
+explanation(t, s, beats) what the step does. form_of(t, s, n) and number_of(t, s, beats) are the form of a number and the
+number of a form, by the groups of source 000's list and not by walking. No step is undone: run_back(t, s, beats, k)
+takes the form of an earlier number and walks on from it. tree(n, ..) and schedule_of_tree(n, ..) go by nested pairs,
+read from the beats or from the tables.
 """
 from functools import cache
 from itertools import product
@@ -112,19 +113,48 @@ def shifted(beats, k):
     return beats[:1] + [beats[k - 1]] + beats[1 : k - 1] + beats[k:]
 
 
-def successor(t, s, beats):
-    """The next form of a schedule, by the rule as the manual words it."""
+class Step(NamedTuple):
+    """A step: the case of the rule, the positions of the found 1 and of the symbol that moves, and the next form. Each
+    position is in a list, which is empty where the case has none."""
+
+    case: int
+    found: list
+    moved: list
+    after: list
+
+
+def step(t, s, beats):
+    """The step from a schedule, by the rule as the manual words it."""
+    if forms(t, s) == 1:
+        return Step(1, [], [], beats)
     rises = [k for k in range(2, len(beats) + 1) if beats[k - 2] == 0 and beats[k - 1] == 1]
     if not rises:
-        return shifted(beats, len(beats)) if s > 0 else beats
+        return Step(2, [], [len(beats)], shifted(beats, len(beats)))
     k = rises[0]
     if k + 1 <= len(beats) and is_schedule(t, s, shifted(beats, k + 1)):
-        return shifted(beats, k + 1)
-    return shifted(beats, k)
+        return Step(3, [k], [k + 1], shifted(beats, k + 1))
+    return Step(4, [k], [k], shifted(beats, k))
+
+
+def successor(t, s, beats):
+    """The next form of a schedule."""
+    return step(t, s, beats).after
+
+
+def changes(old, new):
+    """The places, from 0, at which two forms differ."""
+    return [place for place, (a, b) in enumerate(zip(old, new)) if a != b]
 
 
 def changed(old, new):
-    return sum(1 for a, b in zip(old, new) if a != b)
+    return len(changes(old, new))
+
+
+def explanation(t, s, beats):
+    """What the step from a schedule does: its case, and lists of places, from 0: of the found 1, of the moved beat and
+    of the changed beats."""
+    own = step(t, s, beats)
+    return (own.case, [k - 1 for k in own.found], [k - 1 for k in own.moved], changes(beats, own.after))
 
 
 def may_run(t, s, beats, k):

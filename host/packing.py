@@ -2,8 +2,9 @@
 """The manual's packing list once more, on top of the oracle, for the tests [E11]: host/packing.py < records > lines.
 
 read(data) reads the record that data starts with, in the reading order of the document; line_of(data, at) is the line
-of the one that starts at data[at:], and lines(data) the whole list. record(kind, t, s, beats) makes a record's bytes.
-The slice that a reader lends is taken to be large enough, so there is no 12.
+of the one that starts at data[at:], and lines(data) the whole list. All that list take what says the line of a record,
+so that a list of other lines is read in the same way. record(kind, t, s, beats) makes a record's bytes. The slice that
+a reader lends is taken to be large enough, so there is no 12.
 """
 import functools
 import sys
@@ -52,9 +53,13 @@ def numbered_form(t, s, n):
     return (why, NOTHING if why else (t, s, n, oracle.form_of(t, s, n)))
 
 
+def bits_of(packs):
+    return [int(digit) for byte in packs for digit in f"{byte:08b}"]
+
+
 def packed_form(t, s, packs):
     """The same of kind 2."""
-    bits = [int(digit) for byte in packs for digit in f"{byte:08b}"]
+    bits = bits_of(packs)
     if len(packs) != -(-(t + s) // 8) or any(bits[t + s :]):
         return (Why(11), NOTHING)
     beats = bits[: t + s]
@@ -99,24 +104,24 @@ def read(data):
     return (Why(9), NOTHING, 0) if body is None else (*body_form(body), 2 + len(body))
 
 
-def line_of(data, at):
+def line_of(data, at, says=body_line):
     """The line of the record at data[at:], the bytes it consumes, and whether the list stops after this line."""
     body = body_at(data, at)
-    return (refused(Why(9)), 0, True) if body is None else (body_line(body), 2 + len(body), False)
+    return (refused(Why(9)), 0, True) if body is None else (says(body), 2 + len(body), False)
 
 
-def lines(data):
+def lines(data, says=body_line):
     """Every line: up to the end of the bytes at a record's end, or to a 9."""
     at, stop = 0, False
     while at < len(data) and not stop:
-        line, consumed, stop = line_of(data, at)
+        line, consumed, stop = line_of(data, at, says)
         at += consumed
         yield line
 
 
-def output(data):
-    """What the packing list writes."""
-    return "".join(line + "\n" for line in lines(data)).encode()
+def output(data, says=body_line):
+    """What the list writes."""
+    return "".join(line + "\n" for line in lines(data, says)).encode()
 
 
 if __name__ == "__main__":
