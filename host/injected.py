@@ -1,5 +1,6 @@
-"""Faults put into the calls of the packing list, by host/faults.c: every read and every write is made to fail, to move fewer bytes and to
-be interrupted, one after the other, and all of them at once. Each part yields for every run that was as it should be.
+"""Faults put into the calls of the programs that list, by host/faults.c: every read and every write is made to fail, to move fewer bytes
+and to be interrupted, one after the other, and all of them at once. Each part takes a list, and yields for every run that was as it should
+be.
 
 A fault that was asked for and did not happen is a difference too. [E17]
 """
@@ -12,7 +13,7 @@ import tempfile
 from typing import NamedTuple
 
 import records
-from listing import BOTH, COMMAND, LISTED, NOT_READ, NOT_WRITTEN, NOTHING_TAKEN, READING, WRITING, Difference, Input, hold, run, told
+from listing import LISTED, NOT_READ, NOT_WRITTEN, NOTHING_TAKEN, READING, WRITING, Difference, Input, hold, run, told
 from verifying import ROOT
 
 LIBRARY = "target/host/faults.so"
@@ -52,15 +53,15 @@ def every(how, value=0):
 
 
 @functools.cache
-def blocks():
+def blocks(listing):
     """Several blocks of records, good ones and such as are refused; no 9."""
-    return Input(b"".join(records.stream(2100, 21_500)))
+    return Input(listing, b"".join(records.stream(2100, 21_500)))
 
 
 @functools.cache
-def stopped():
+def stopped(listing):
     """Fewer, and the last one is cut: the list stops after a 9."""
-    return Input(blocks().data[:1500] + b"\x0c\x00\x01\x00")
+    return Input(listing, blocks(listing).data[:1500] + b"\x0c\x00\x01\x00")
 
 
 def build():
@@ -89,7 +90,7 @@ def injected(lister, rules, *words, data=b"", sure=None):
     calls = [Call(name, *map(int, numbers), fault) for name, *numbers, fault in lines]
     for rule in rules if sure is None else sure:
         if not happened(rule, calls):
-            raise Difference(f"{lister.name}, {faults}: {rule} did not happen; status {done.status}, said {done.said!r}")
+            raise Difference(f"{lister}, {faults}: {rule} did not happen; status {done.status}, said {done.said!r}")
     return done, calls
 
 
@@ -131,9 +132,9 @@ def not_written(lister, rules, *words, own, data=b""):
 def last(case, lister, same, calls):
     """That the call that failed is the last of its name, and that the command tells by one write."""
     if same[-1].fault not in ("fail", "nothing"):
-        raise Difference(f"{lister.name}, {case}: goes on with {same[-1]}")
-    if lister is COMMAND and len(named(calls, "tell")) != 1:
-        raise Difference(f"{lister.name}, {case}: tells by {len(named(calls, 'tell'))} writes")
+        raise Difference(f"{lister}, {case}: goes on with {same[-1]}")
+    if lister.has_status and len(named(calls, "tell")) != 1:
+        raise Difference(f"{lister}, {case}: tells by {len(named(calls, 'tell'))} writes")
 
 
 def numbers(calls, name):
@@ -144,10 +145,10 @@ def numbers(calls, name):
     return found
 
 
-def each_call():
+def each_call(listing):
     """Every read and every write in turn, with each fault."""
-    own = blocks()
-    for lister in BOTH:
+    own = blocks(listing)
+    for lister in listing.both:
         calls = whole(lister, [], own=own, data=own.data)
         yield
         for number in numbers(calls, "read"):
@@ -162,14 +163,14 @@ def each_call():
                 yield whole(lister, [Rule("write", how, value, number)], own=own, data=own.data)
 
 
-def all_calls():
+def all_calls(listing):
     """Every call short, or interrupted, or both."""
     few = [Rule("read", "few", 1), Rule("write", "few", 2)]
-    for lister in BOTH:
-        for own in (blocks(), stopped()):
+    for lister in listing.both:
+        for own in (blocks(listing), stopped(listing)):
             for rules in (every("half"), every("less", 3), every("interrupt", 1), few, [*every("interrupt", 2), *few]):
                 yield whole(lister, rules, own=own, data=own.data)
-        for own in (Input(blocks().data[:3000]), stopped()):
+        for own in (Input(listing, blocks(listing).data[:3000]), stopped(listing)):
             yield whole(lister, every("most", 1), own=own, data=own.data)
             yield whole(lister, [*every("most", 1), *every("interrupt", 1)], own=own, data=own.data)
 
@@ -179,11 +180,11 @@ def spread(values):
     return sorted({values[0], values[1], *values[:: max(1, len(values) // 9)], values[-1]})
 
 
-def among_other_faults():
+def among_other_faults(listing):
     """A failure among calls that are short or interrupted: that they are, the run without the failure shows."""
     less, few = every("less", 8), [*every("few", 9), *every("interrupt", 1)]
-    for lister in BOTH:
-        for own, rules in ((blocks(), less), (Input(blocks().data[:20_000]), few)):
+    for lister in listing.both:
+        for own, rules in ((blocks(listing), less), (Input(listing, blocks(listing).data[:20_000]), few)):
             calls = whole(lister, rules, own=own, data=own.data)
             yield
             for number in spread(numbers(calls, "read")):
@@ -202,57 +203,57 @@ def stored(data):
         yield file.name
 
 
-def of_a_named_file():
+def of_a_named_file(listing):
     """The same of a file that the command opens itself; and the opening."""
-    own = blocks()
+    own = blocks(listing)
     with stored(own.data) as name:
         for times in (1, 20):
-            yield whole(COMMAND, [Rule("open", "interrupt", times, 1)], name, own=own)
+            yield whole(listing.command, [Rule("open", "interrupt", times, 1)], name, own=own)
         for error in (errno.EMFILE, errno.EACCES, errno.EIO):
-            done, _ = injected(COMMAND, [Rule("open", "fail", error, 1)], name)
-            yield hold(f"open: {error}", COMMAND, done, NOT_READ, told(f"cannot open {name}", error))
-        for number in numbers(whole(COMMAND, [], name, own=own), "read"):
+            done, _ = injected(listing.command, [Rule("open", "fail", error, 1)], name)
+            yield hold(f"open: {error}", listing.command, done, NOT_READ, told(f"cannot open {name}", error))
+        for number in numbers(whole(listing.command, [], name, own=own), "read"):
             for how, value in HARMLESS:
-                yield whole(COMMAND, [Rule("read", how, value, number)], name, own=own)
+                yield whole(listing.command, [Rule("read", how, value, number)], name, own=own)
             for error in READ_ERRORS:
-                yield not_read(COMMAND, [Rule("read", "fail", error, number)], name, own=own, what=f"cannot read {name}")
+                yield not_read(listing.command, [Rule("read", "fail", error, number)], name, own=own, what=f"cannot read {name}")
         for rules in (every("half"), every("interrupt", 3)):
-            yield whole(COMMAND, rules, name, own=own)
+            yield whole(listing.command, rules, name, own=own)
 
 
-def of_the_close():
+def of_the_close(listing):
     """A fault that shows only when the command closes its standard output."""
-    own = stopped()
+    own = stopped(listing)
     for error in CLOSE_ERRORS:
         rules = [Rule("close", "fail", error, 1)]
         for words, output in (((), own.list), (("--help",), None), (("--version",), None)):
-            done, _ = injected(COMMAND, rules, *words, data=own.data)
+            done, _ = injected(listing.command, rules, *words, data=own.data)
             right = done.output if output is None else output
-            yield hold(f"{words} {rules[0]}", COMMAND, done, NOT_WRITTEN, told(WRITING, error), right)
+            yield hold(f"{words} {rules[0]}", listing.command, done, NOT_WRITTEN, told(WRITING, error), right)
 
 
-def of_the_telling():
+def of_the_telling(listing):
     """A line on standard error that the system takes in parts; and one that it does not take: the status still tells."""
     read = Rule("read", "fail", errno.EIO, 1)
     line = told(READING, errno.EIO)
     for how, value in HARMLESS:
-        done, _ = injected(COMMAND, [read, Rule("tell", how, value)])
-        yield hold(f"tell {how}", COMMAND, done, NOT_READ, line)
+        done, _ = injected(listing.command, [read, Rule("tell", how, value)])
+        yield hold(f"tell {how}", listing.command, done, NOT_READ, line)
     for how, value in (("fail", errno.EIO), ("fail", errno.EAGAIN), ("nothing", 0)):
-        done, _ = injected(COMMAND, [read, Rule("tell", how, value)])
-        yield hold(f"tell {how}", COMMAND, done, NOT_READ, b"")
+        done, _ = injected(listing.command, [read, Rule("tell", how, value)])
+        yield hold(f"tell {how}", listing.command, done, NOT_READ, b"")
 
 
-def of_help_and_version():
+def of_help_and_version(listing):
     """The two texts that the command prints, short, interrupted and not taken."""
     for word in ("--help", "--version"):
-        text = run(COMMAND, word).output
+        text = run(listing.command, word).output
         for how, value in HARMLESS:
-            done, _ = injected(COMMAND, [Rule("write", how, value)], word)
-            yield hold(f"{word}, {how}", COMMAND, done, LISTED, b"", text)
+            done, _ = injected(listing.command, [Rule("write", how, value)], word)
+            yield hold(f"{word}, {how}", listing.command, done, LISTED, b"", text)
         for how, value, reason in (("fail", errno.EIO, errno.EIO), ("nothing", 0, NOTHING_TAKEN)):
-            done, _ = injected(COMMAND, [Rule("write", how, value, 1)], word)
-            yield hold(f"{word}, {how}", COMMAND, done, NOT_WRITTEN, told(WRITING, reason))
+            done, _ = injected(listing.command, [Rule("write", how, value, 1)], word)
+            yield hold(f"{word}, {how}", listing.command, done, NOT_WRITTEN, told(WRITING, reason))
 
 
 PARTS = (each_call, all_calls, among_other_faults, of_a_named_file, of_the_close, of_the_telling, of_help_and_version)

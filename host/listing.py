@@ -1,13 +1,14 @@
-"""The two programs that list order records, what a run of one should be, and how it is held to that.
+"""The lists of order records, the programs that write them, what a run of one should be, and how it is held to that.
 
-COMMAND is the installed command, host/packing_list.c over the library's gv_packing_list; PROGRAM is the Rattle program. They do the same,
-but the Rattle program takes no argument, has no status of its own, and leaves the signals and its standard output as they are.
+A list has two programs of its name. The command is installed, and is host/command.c over a function of the library. The Rattle program does
+the same, but takes no argument, has no status of its own, and leaves the signals and its standard output as they are.
 """
 import bisect
+import functools
 import os
 import subprocess
 import tempfile
-from typing import NamedTuple
+from typing import Callable, NamedTuple
 
 import packing
 from verifying import ROOT
@@ -20,16 +21,44 @@ NOTHING_TAKEN = "no byte was taken"
 
 
 class Lister(NamedTuple):
-    """A program that lists."""
+    """A program that lists, and how it is made."""
 
+    kind: str
     name: str
     path: str
+    how: str
     has_status: bool
 
+    def __str__(self):
+        return f"{self.kind} {self.name}"
 
-COMMAND = Lister("command", str(ROOT / "target/host/packing_list"), True)
-PROGRAM = Lister("Rattle program", str(ROOT / "target/bin/packing_list"), False)
-BOTH = (COMMAND, PROGRAM)
+
+class Listing(NamedTuple):
+    """A list: the name of its programs, and what says the line of a record by the bytes after its length."""
+
+    name: str
+    says: Callable
+
+    @property
+    def command(self):
+        return Lister("command", self.name, str(ROOT / "target/host" / self.name), "rt staticlib ghanveltri && host/build", True)
+
+    @property
+    def program(self):
+        return Lister("Rattle program", self.name, str(ROOT / "target/bin" / self.name), f"rt check {self.name}", False)
+
+    @property
+    def both(self):
+        return (self.command, self.program)
+
+    @functools.lru_cache(16)
+    def output(self, data):
+        """What its programs should write for these records."""
+        return packing.output(data, self.says)
+
+
+PACKING = Listing("packing_list", packing.body_line)
+LISTINGS = (PACKING,)
 
 
 class Difference(Exception):
@@ -47,13 +76,13 @@ class Run(NamedTuple):
 class Input:
     """Order records, their list, and the part of it that the first bytes give."""
 
-    def __init__(self, data):
+    def __init__(self, listing, data):
         self.data = data
-        self.list = packing.output(data)
+        self.list = listing.output(data)
         self.ends = [(0, 0)]
         at = lines = 0
         while at < len(data):
-            line, consumed, stop = packing.line_of(data, at)
+            line, consumed, stop = packing.line_of(data, at, listing.says)
             if stop:
                 break
             at, lines = at + consumed, lines + len(line) + 1
@@ -85,8 +114,8 @@ def run(lister, *words, data=b"", source=None, to=subprocess.PIPE, prepare=None,
 
 
 def told(what, reason):
-    """The line that tells of a failure; the reason is its text, or the system's number for it."""
-    return f"packing_list: {what}: {reason if isinstance(reason, str) else os.strerror(reason)}\n".encode()
+    """The line that tells of a failure, after the program's name; the reason is its text, or the system's number for it."""
+    return f"{what}: {reason if isinstance(reason, str) else os.strerror(reason)}\n".encode()
 
 
 def shown(text):
@@ -94,9 +123,11 @@ def shown(text):
 
 
 def hold(case, lister, run, status=LISTED, said=b"", output=b""):
-    """A run to its status, to what it says on standard error and to what it writes. A negative status is a signal's."""
+    """A run to its status, to what it says on standard error after its name, if anything, and to what it writes. A negative status is a
+    signal's."""
     status = status if lister.has_status or status < 0 else LISTED
-    name = f"{lister.name}, {case}"
+    said = f"{lister.name}: ".encode() + said if said else b""
+    name = f"{lister}, {case}"
     if run.said != said:
         raise Difference(f"{name}: {shown(said)} is right on standard error, got {shown(run.said)}")
     if run.status != status:
@@ -107,9 +138,9 @@ def hold(case, lister, run, status=LISTED, said=b"", output=b""):
         raise Difference(f"{name}: {where}; then {shown(output[same:])} is right, got {shown(run.output[same:])}")
 
 
-def missing():
-    """What to say of the first program that is not there, or None."""
-    for lister, how in ((COMMAND, "rt staticlib ghanveltri && host/build"), (PROGRAM, "rt check packing_list")):
+def missing(*listings):
+    """What to say of the first program of these lists that is not there, or None."""
+    for lister in (lister for listing in listings for lister in listing.both):
         if not os.access(lister.path, os.X_OK):
-            return f"there is no {lister.path}: {how}"
+            return f"there is no {lister.path}: {lister.how}"
     return None

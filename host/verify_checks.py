@@ -338,14 +338,14 @@ BREAKS = {
         Break("no command", COMMAND, gone, (COMMAND, "host/build")),
         Break("a third field lost", COMMAND, becomes(NO_SURPLUS), ("sample", "line 3")),
         Break("a sign lost", PROGRAM, becomes(UNSIGNED), ("line 2", "b'refused 6 0 -1' is right"), {}, ("miscounted",)),
-        Break("no sign worked out", PACKING, swap("{why.surplus}", "{abs(why.surplus)}"), ("miscounted: host/packing.py",), {}, ("miscounted",)),
+        Break("no sign worked out", PACKING, swap("{why.surplus}", "{abs(why.surplus)}"), ("miscounted: worked out wrongly: line 2",), {}, ("miscounted",)),
     ],
     "packing_programs_agree": [
         Break("a line lost", PROGRAM, becomes(LESS), ("packing_list",)),
         off_the_other_way(STDIO, "ones", "t", "packing_stdio does not write"),
     ],
     "faults_are_told": [
-        Break("a failure not told", COMMAND, becomes(SILENT), ("stop_behind_a_9: ", "full_device: command, ")),
+        Break("a failure not told", COMMAND, becomes(SILENT), ("stop_behind_a_9 of packing_list: ", "full_device of packing_list: command ")),
     ],
     "installed_example_runs": [
         Break("no command", COMMAND, gone, (COMMAND,)),

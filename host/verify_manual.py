@@ -15,7 +15,7 @@ import sys
 import tempfile
 
 from header import ARCHIVE, HEADER, HOW, constants, declared, prototypes, refusals, texts, version
-from listing import COMMAND, missing
+from listing import PACKING, missing
 from verifying import ROOT, has, verdict
 
 PAGES = ROOT / "host/man"
@@ -102,7 +102,7 @@ def example_faults():
     last = max((at for at, line in enumerate(lines) if line.startswith("$ ")), default=0)
     right = "".join(line + "\n" for line in lines[last + 1 :] if line)
     with tempfile.TemporaryDirectory() as folder:
-        path = f"{pathlib.Path(COMMAND.path).parent}:{os.environ['PATH']}"
+        path = f"{pathlib.Path(PACKING.command.path).parent}:{os.environ['PATH']}"
         script = ["sh", "-euc", "\n".join(commands)]
         done = subprocess.run(script, cwd=folder, env=os.environ | {"PATH": path}, stdout=subprocess.PIPE, text=True)
         orders = pathlib.Path(folder, "orders")
@@ -116,7 +116,7 @@ def example_faults():
 
 def command_faults():
     options = re.compile(r"(?<![\w-])--[a-z]\w*")
-    said = subprocess.run([COMMAND.path, "--help"], stdout=subprocess.PIPE, text=True, check=True).stdout
+    said = subprocess.run([PACKING.command.path, "--help"], stdout=subprocess.PIPE, text=True, check=True).stdout
     page = sections("packing_list.1")
     for part in ("SYNOPSIS", "OPTIONS"):
         if set(options.findall(page[part])) != set(options.findall(said)):
@@ -136,8 +136,8 @@ def page_faults(page):
 
 
 def main():
-    if not ARCHIVE.exists() or missing():
-        print(missing() or f"there is no {ARCHIVE}: {HOW}")
+    if not ARCHIVE.exists() or missing(PACKING):
+        print(missing(PACKING) or f"there is no {ARCHIVE}: {HOW}")
         return 1
     functions = declared()
     pages = sorted(PAGES.iterdir())

@@ -1,14 +1,16 @@
 #!/usr/bin/env python3
-"""Holds the packing list to host/packing.py [E11]: the same bytes out for the same bytes in, from a file and through a pipe in pieces.
+"""Holds a list to what is worked out for it [E11]: the same bytes out for the same bytes in, from a file and through a pipe in pieces.
 
-  verify_packing.py [--program FILE] [--seed NUMBER] [PART ..]
+  verify_lists.py LIST [--program FILE] [--seed NUMBER] [PART ..]
 
-Both programs of host/listing.py are run, or the one that --program names. The mixed records come from a new seed, which is printed; --seed
-repeats one. Where parts are named they alone are run, and that every refusal was met is not asked. No variable of the environment is read,
-and the programs get none. Prints a line for each part, and ends with status 1 at the first difference, 2 where the call is wrong.
+Both programs of a list of host/listing.py are run, or the one that --program names. The mixed records come from a new seed, which is
+printed; --seed repeats one. Where parts are named they alone are run, and that every refusal was met is not asked. No variable of the
+environment is read, and the programs get none. Prints a line for each part, and ends with status 1 at the first difference, 2 where the
+call is wrong.
 """
 import argparse
 import fcntl
+import functools
 import itertools
 import os
 import random
@@ -18,18 +20,19 @@ import sys
 import tempfile
 import termios
 import time
+from typing import NamedTuple
 
 import oracle
 import packing
 import records
-from listing import BOTH, LIMIT, Difference, missing
+from listing import LIMIT, LISTINGS, PACKING, Difference, missing
 
 MIXED = 100_000
 BLOCKS = (4096, 65536)
 PIECES = (1, 7, 4095, 2, 65535, 13, 4096, 3, 1021)
 REFUSALS = {1, 2, 5, 6, 7, 9, 10, 11}  # those that a record can get
 
-# The input and the output as the manual gives them.
+# The input as the manual gives it.
 SAMPLE = [
     bytes.fromhex(line)
     for line in (
@@ -39,22 +42,41 @@ SAMPLE = [
         "0C 00 01 00 01 01 00 00 00 00 00 00 00 00",
     )
 ]
-SAMPLE_OUTPUT = b"3 2 2 11010\n3 2 3 10101\nrefused 7 0 0\n1 1 0 10\n"
 
-# Records of kind 2 that are refused 6, with the surplus of each: the manual's, and those at the ends of what can occur.
+# Records of kind 2 that are refused 6, with the surplus of each, the ones asked for and the ones found: the manual's, and those at the ends
+# of what can occur.
 MOST = oracle.LARGEST
 FULL = oracle.forms(MOST, MOST)
 FEWEST = packing.packed(MOST, 0, [1, 0] * (MOST // 2))
 MISCOUNTED = [
-    (packing.packed(2, 1, [1, 1, 1]), 1),
-    (packing.packed(3, 1, [1, 0, 1, 0]), -1),
-    (packing.packed(2, 0, [1, 0]), -1),
-    (packing.packed(MOST, 0, [1] * (MOST - 1) + [0]), -1),
-    (FEWEST, -(MOST // 2)),
-    (packing.packed(MOST, MOST - 1, [1] * (2 * MOST - 1)), MOST - 1),
-    (packing.packed(MOST, MOST, [1] * (MOST + 1) + [0] * (MOST - 1)), 1),
-    (packing.packed(MOST, MOST, [1] * (2 * MOST)), MOST),
+    (packing.packed(2, 1, [1, 1, 1]), 1, 2, 3),
+    (packing.packed(3, 1, [1, 0, 1, 0]), -1, 3, 2),
+    (packing.packed(2, 0, [1, 0]), -1, 2, 1),
+    (packing.packed(MOST, 0, [1] * (MOST - 1) + [0]), -1, MOST, MOST - 1),
+    (FEWEST, -(MOST // 2), MOST, MOST // 2),
+    (packing.packed(MOST, MOST - 1, [1] * (2 * MOST - 1)), MOST - 1, MOST, 2 * MOST - 1),
+    (packing.packed(MOST, MOST, [1] * (MOST + 1) + [0] * (MOST - 1)), 1, MOST, MOST + 1),
+    (packing.packed(MOST, MOST, [1] * (2 * MOST)), MOST, MOST, 2 * MOST),
 ]
+
+
+class Known(NamedTuple):
+    """What is known of a list without working it out: the list of the sample, the line of a 6, and an accepted record with the longest
+    line; and the parts that it alone has."""
+
+    sample: bytes
+    miscounted: str
+    longest: bytes
+    parts: tuple = ()
+
+
+KNOWN = {
+    PACKING: Known(
+        b"3 2 2 11010\n3 2 3 10101\nrefused 7 0 0\n1 1 0 10\n",
+        "refused 6 0 {surplus}\n",
+        packing.numbered(MOST, MOST, FULL - 1),
+    ),
+}
 
 
 def from_file(program, data):
@@ -138,29 +160,36 @@ def first_difference(data, right, got):
 class Verifier:
     """Runs inputs, and keeps how many runs there were and which refusals they should meet."""
 
-    def __init__(self, programs, seed):
+    def __init__(self, listing, programs, seed):
+        self.listing = listing
+        self.known = KNOWN[listing]
         self.programs = programs
         self.seed = seed
         self.runs = 0
         self.refusals = set()
 
-    def verify(self, name, data, *feeds, right=None):
-        """Each program's output for these bytes by each way of feeding them; right is the output where it is known otherwise."""
-        computed = packing.output(data)
-        if right is not None and computed != right:
-            raise Difference(f"{name}: host/packing.py is wrong: {computed!r}")
-        self.refusals |= {int(line.split()[1]) for line in computed.splitlines() if line.startswith(b"refused")}
+    def outputs(self, name, data, *feeds):
+        """Each program's output for these bytes by each way of feeding them, and what to call the run."""
         for program, feed in itertools.product(self.programs, feeds or (from_file,)):
             self.runs += 1
             status, got = feed(program, data)
-            if got != computed:
-                raise Difference(f"{program}: {name}, {feed.__name__}: {first_difference(data, computed, got)}")
+            yield f"{program}: {name}, {feed.__name__}", got
             if status != 0:
                 raise Difference(f"{program}: {name}, {feed.__name__}: ended with status {status}")
 
+    def verify(self, name, data, *feeds, right=None):
+        """Each of these outputs to what is worked out; right is the output where it is known otherwise."""
+        computed = self.listing.output(data)
+        if right is not None and computed != right:
+            raise Difference(f"{name}: worked out wrongly: {first_difference(data, right, computed)}")
+        self.refusals |= {int(line.split()[1]) for line in computed.splitlines() if line.startswith(b"refused")}
+        for run, got in self.outputs(name, data, *feeds):
+            if got != computed:
+                raise Difference(f"{run}: {first_difference(data, computed, got)}")
+
 
 def sample(verifier):
-    verifier.verify("sample", b"".join(SAMPLE), from_file, in_pieces, bytewise, right=SAMPLE_OUTPUT)
+    verifier.verify("sample", b"".join(SAMPLE), from_file, in_pieces, bytewise, right=verifier.known.sample)
     verifier.verify("empty input", b"", from_file, in_pieces, right=b"")
 
 
@@ -209,11 +238,12 @@ def each_value(record):
 
 def miscounted(verifier):
     """Records that are refused 6: whole, in pieces and damaged, each byte of it and cut at each."""
-    named = b"".join(record for record, _ in MISCOUNTED)
-    right = "".join(f"refused 6 0 {surplus}\n" for _, surplus in MISCOUNTED).encode()
-    verifier.verify("miscounted", named, from_file, in_pieces, bytewise, right=right)
+    named = b"".join(record for record, *_ in MISCOUNTED)
+    line = verifier.known.miscounted
+    right = "".join(line.format(surplus=surplus, asked=asked, found=found) for _, surplus, asked, found in MISCOUNTED)
+    verifier.verify("miscounted", named, from_file, in_pieces, bytewise, right=right.encode())
     verifier.verify("every surplus", b"".join(surpluses()), from_file, in_pieces)
-    for record, surplus in MISCOUNTED:
+    for record, surplus, *_ in MISCOUNTED:
         verifier.verify(f"surplus {surplus}, each byte", b"".join(each_value(record)), from_file, in_pieces)
         for length in range(len(record)):
             verifier.verify(f"surplus {surplus}, cut to {length}", named + record[:length])
@@ -340,25 +370,30 @@ def piece_ends(verifier):
         verifier.verify(f"{name} by bytes", filler(1500) + record + BEHIND, bytewise)
 
 
-def lines_of_length(length):
-    """Records whose lines together have this length, 8 or more: "t 0 0" and t take-ups is 7 + t long for t up to 9."""
-    made = []
-    while length > 24:
-        made.append(packing.numbered(9, 0, 0))
-        length -= 16
-    if length > 16:
-        made.append(packing.numbered(1, 0, 0))
-        length -= 8
-    return b"".join(made) + packing.numbered(length - 7, 0, 0)
+# Records with short lines. That of the first has eight bytes in each list; two of them together have any number of bytes, but for eights.
+SHORT = [packing.numbered(*order) for order in ((1, 0, 0), (2, 1, 0), (3, 2, 2), (9, 2, 0), (10, 1, 0))] + [packing.framed(b"\3\0")]
+
+
+@functools.cache
+def pairs_by_rest(listing):
+    """Two records for each rest that the length of their lines leaves when it is divided by eight."""
+    return {len(listing.output(one + other)) % 8: one + other for one, other in itertools.product(SHORT, repeat=2)}
+
+
+def lines_of_length(listing, length):
+    """Records whose lines together have this length."""
+    last = pairs_by_rest(listing)[length % 8]
+    return SHORT[0] * ((length - len(listing.output(last))) // 8) + last
 
 
 def output_ends(verifier):
     """The longest line, and that of a refused record, at each place around the end of a block of output."""
-    for record, block in itertools.product((STRADDLERS["kind 1"], FEWEST), BLOCKS):
-        longest = len(packing.output(record))
+    output = verifier.listing.output
+    for record, block in itertools.product((verifier.known.longest, FEWEST), BLOCKS):
+        longest = len(output(record))
         for start in range(-longest - 2, 3):
-            before = lines_of_length(block + start)
-            if len(packing.output(before)) != block + start:
+            before = lines_of_length(verifier.listing, block + start)
+            if len(output(before)) != block + start:
                 raise Difference(f"the lines before {block}{start:+} have another length")
             verifier.verify(f"line of {longest} bytes from {block}{start:+}", before + record + BEHIND)
 
@@ -369,21 +404,26 @@ def mixed(verifier):
     verifier.verify(f"mixed, --seed {verifier.seed}", data, from_file, in_pieces)
 
 
-PARTS = {
-    part.__name__: part
-    for part in (sample, cuts, limits, miscounted, corners, block_ends, piece_ends, output_ends, mixed)
-}
+PARTS = (sample, cuts, limits, miscounted, corners, block_ends, piece_ends, output_ends, mixed)
+
+
+def parts_of(listing):
+    return {part.__name__: part for part in (*PARTS, *KNOWN[listing].parts)}
 
 
 def arguments():
-    parser = argparse.ArgumentParser(description="Holds the packing list to host/packing.py.", allow_abbrev=False)
-    parser.add_argument("--program", metavar="FILE", help="the program that is run; without it both of host/listing.py")
+    """What was asked for: a list, and the rest."""
+    lists = {listing.name: listing for listing in LISTINGS}
+    parser = argparse.ArgumentParser(description="Holds a list to what is worked out for it.", allow_abbrev=False)
+    parser.add_argument("--program", metavar="FILE", help="the program that is run; without it both of the list")
     parser.add_argument("--seed", metavar="NUMBER", type=int, help="repeats the mixed records of a run", default=None)
-    parser.add_argument("parts", metavar="PART", nargs="*", help=", ".join(PARTS))
-    given = parser.parse_args()
+    parser.add_argument("list", metavar="LIST", choices=lists, help=", ".join(lists))
+    parser.add_argument("parts", metavar="PART", nargs="*", help="a part that is run; without any all of them")
+    given = parser.parse_intermixed_args()
+    given.list = lists[given.list]
     for part in given.parts:
-        if part not in PARTS:
-            parser.error(f"no part {part}; the parts are {', '.join(PARTS)}")
+        if part not in parts_of(given.list):
+            parser.error(f"no part {part}; the parts are {', '.join(parts_of(given.list))}")
     if given.program and not os.access(given.program, os.X_OK):
         parser.error(f"{given.program} is no program")
     return given
@@ -391,15 +431,16 @@ def arguments():
 
 def main():
     given = arguments()
-    if not given.program and missing():
-        print(missing())
+    if not given.program and missing(given.list):
+        print(missing(given.list))
         return 1
-    programs = [os.path.abspath(given.program)] if given.program else [lister.path for lister in BOTH]
-    verifier = Verifier(programs, random.SystemRandom().getrandbits(32) if given.seed is None else given.seed)
-    for name in given.parts or PARTS:
+    programs = [os.path.abspath(given.program)] if given.program else [lister.path for lister in given.list.both]
+    verifier = Verifier(given.list, programs, random.SystemRandom().getrandbits(32) if given.seed is None else given.seed)
+    parts = parts_of(given.list)
+    for name in given.parts or parts:
         before = verifier.runs
         try:
-            PARTS[name](verifier)
+            parts[name](verifier)
         except Difference as difference:
             print(difference)
             return 1
