@@ -10,6 +10,7 @@ import subprocess
 import tempfile
 from typing import Callable, NamedTuple
 
+import explaining
 import packing
 from verifying import ROOT
 
@@ -58,7 +59,8 @@ class Listing(NamedTuple):
 
 
 PACKING = Listing("packing_list", packing.body_line)
-LISTINGS = (PACKING,)
+EXPLAINING = Listing("explain", explaining.body_line)
+LISTINGS = (PACKING, EXPLAINING)
 
 
 class Difference(Exception):

@@ -1,9 +1,9 @@
 #!/usr/bin/env python3
-"""Holds the manual pages of host/man to the header and to the command.
+"""Holds the manual pages of host/man to the header and to the commands.
 
 ghanveltri(3) declares each function of the header as it stands there and says something of it, gives each refusal with
 its number and its text, names each limit, and names nothing else; a number after the name of a constant is its value.
-packing_list(1) names the options of --help; its example is the manual's, and prints what it shows. Both have the
+The page of each command names the options of --help; its example is the sample, and prints what it shows. All have the
 header's version, and groff formats them without a warning. Prints each fault, and ends with status 1 if there is one.
 """
 import os
@@ -15,7 +15,7 @@ import sys
 import tempfile
 
 from header import ARCHIVE, HEADER, HOW, constants, declared, prototypes, refusals, texts, version
-from listing import PACKING, missing
+from listing import LISTINGS, missing
 from verifying import ROOT, has, verdict
 
 PAGES = ROOT / "host/man"
@@ -95,33 +95,33 @@ def library_faults(functions):
         yield f"ghanveltri.3: there is no {name}"
 
 
-def example_faults():
-    """The page's example, in a folder of its own, with the command as it was built."""
-    lines = sections("packing_list.1")["EXAMPLES"].split("\n")
+def example_faults(listing, page):
+    """The example of a command's page, in a folder of its own, with the command as it was built."""
+    lines = sections(page)["EXAMPLES"].split("\n")
     commands = [line[2:] for line in lines if line.startswith("$ ")]
     last = max((at for at, line in enumerate(lines) if line.startswith("$ ")), default=0)
     right = "".join(line + "\n" for line in lines[last + 1 :] if line)
     with tempfile.TemporaryDirectory() as folder:
-        path = f"{pathlib.Path(PACKING.command.path).parent}:{os.environ['PATH']}"
+        path = f"{pathlib.Path(listing.command.path).parent}:{os.environ['PATH']}"
         script = ["sh", "-euc", "\n".join(commands)]
         done = subprocess.run(script, cwd=folder, env=os.environ | {"PATH": path}, stdout=subprocess.PIPE, text=True)
         orders = pathlib.Path(folder, "orders")
         made = orders.read_bytes() if orders.exists() else b""
     if (done.returncode, done.stdout) != (0, right):
-        yield f"packing_list.1: the example ends with {done.returncode} and prints {done.stdout!r}"
-    sample = ROOT / "crates/packing_list"
+        yield f"{page}: the example ends with {done.returncode} and prints {done.stdout!r}"
+    sample = ROOT / "crates" / listing.name
     if (made, right.encode()) != ((sample / "stdin").read_bytes(), (sample / "stdout").read_bytes()):
-        yield "packing_list.1: the example is not the sample"
+        yield f"{page}: the example is not the sample"
 
 
-def command_faults():
+def command_faults(listing):
     options = re.compile(r"(?<![\w-])--[a-z]\w*")
-    said = subprocess.run([PACKING.command.path, "--help"], stdout=subprocess.PIPE, text=True, check=True).stdout
-    page = sections("packing_list.1")
+    said = subprocess.run([listing.command.path, "--help"], stdout=subprocess.PIPE, text=True, check=True).stdout
+    page = f"{listing.name}.1"
     for part in ("SYNOPSIS", "OPTIONS"):
-        if set(options.findall(page[part])) != set(options.findall(said)):
-            yield f"packing_list.1: {part} has other options than --help"
-    yield from example_faults()
+        if set(options.findall(sections(page)[part])) != set(options.findall(said)):
+            yield f"{page}: {part} has other options than --help"
+    yield from example_faults(listing, page)
 
 
 def page_faults(page):
@@ -136,12 +136,13 @@ def page_faults(page):
 
 
 def main():
-    if not ARCHIVE.exists() or missing(PACKING):
-        print(missing(PACKING) or f"there is no {ARCHIVE}: {HOW}")
+    if not ARCHIVE.exists() or missing(*LISTINGS):
+        print(missing(*LISTINGS) or f"there is no {ARCHIVE}: {HOW}")
         return 1
     functions = declared()
     pages = sorted(PAGES.iterdir())
-    faults = [*library_faults(functions), *command_faults(), *(fault for page in pages for fault in page_faults(page))]
+    faults = [*library_faults(functions), *(fault for listing in LISTINGS for fault in command_faults(listing))]
+    faults += [fault for page in pages for fault in page_faults(page)]
     return verdict(faults, len(functions), f"functions in {len(pages)} pages")
 
 

@@ -1,0 +1,9 @@
+/* The explanations as a command: explain [FILE]. */
+#include "command.h"
+#include "ghanveltri.h"
+
+const struct command COMMAND = {
+    "explain",
+    "Explains the order records of FILE, or of standard input, to standard output: a line for each.",
+    gv_explain_list,
+};
