@@ -79,6 +79,11 @@ def allowed(t, s):
     return Why(1) if t > LARGEST else Why(2) if s > t else ACCEPTED
 
 
+def pairs():
+    """All allowed pairs of counts."""
+    return ((t, s) for t in range(LARGEST + 1) for s in range(t + 1))
+
+
 def count(t, s):
     """Why, and the count."""
     why = allowed(t, s)

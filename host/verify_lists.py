@@ -22,10 +22,11 @@ import termios
 import time
 from typing import NamedTuple
 
+import explained
 import oracle
 import packing
 import records
-from listing import LIMIT, LISTINGS, PACKING, Difference, missing
+from listing import EXPLAINING, LIMIT, LISTINGS, PACKING, Difference, missing
 
 MIXED = 100_000
 BLOCKS = (4096, 65536)
@@ -75,6 +76,12 @@ KNOWN = {
         b"3 2 2 11010\n3 2 3 10101\nrefused 7 0 0\n1 1 0 10\n",
         "refused 6 0 {surplus}\n",
         packing.numbered(MOST, MOST, FULL - 1),
+    ),
+    EXPLAINING: Known(
+        b"3 3 4 1 2 3 4\n4 2 2 1 2\nrefused 7 0 0\n1 - - -\n",
+        "refused 6 0 {surplus} {asked} {found}\n",
+        packing.packed(MOST, MOST - 1, [1] * (MOST - 1) + [0] * (MOST - 2) + [1, 0]),
+        explained.PARTS,
     ),
 }
 
@@ -222,7 +229,7 @@ def limits(verifier):
 
 def surpluses():
     """Every surplus that can occur, with every pair of counts: the ones first, and each zero as early as it can be."""
-    for t, s in allowed():
+    for t, s in oracle.pairs():
         for more in oracle.surpluses(t, s):
             ones, zeros = t + more, s - more
             yield packing.packed(t, s, [1] * ones + [0] * zeros)
@@ -272,13 +279,9 @@ def pairs_of_counts():
             yield packing.packed(t, s, [0] * (t + s))
 
 
-def allowed():
-    return ((t, s) for t in range(oracle.LARGEST + 1) for s in range(t + 1))
-
-
 def numbers():
     """For every pair of counts the numbers at the ends, around the count, and such whose low or high part alone is small."""
-    for t, s in allowed():
+    for t, s in oracle.pairs():
         n = oracle.forms(t, s)
         for number in (0, 1, n // 2, n - 2, n - 1, n, n + 1, n | 1 << 32, n - 1 | 1 << 56, n - 1 | 1 << 63, 2**63, 2**64 - 1):
             if number >= 0:
@@ -289,7 +292,7 @@ def numbers():
 
 def beats():
     """Every byte for counts of at most eight beats; each bit of the record turned, and each bare beat, for more."""
-    for t, s in allowed():
+    for t, s in oracle.pairs():
         if 1 <= t + s <= 8:
             for byte in range(256):
                 yield packing.framed(bytes([2, 0, t, s, byte]))
@@ -370,13 +373,14 @@ def piece_ends(verifier):
         verifier.verify(f"{name} by bytes", filler(1500) + record + BEHIND, bytewise)
 
 
-# Records with short lines. That of the first has eight bytes in each list; two of them together have any number of bytes, but for eights.
-SHORT = [packing.numbered(*order) for order in ((1, 0, 0), (2, 1, 0), (3, 2, 2), (9, 2, 0), (10, 1, 0))] + [packing.framed(b"\3\0")]
+# Records with short lines. That of the first has eight bytes in each list, two more than the record, so that a block of output is full
+# before one of input is used up. Lines of two of them leave every rest when their length is divided by eight.
+SHORT = [packing.packed(0, 0, []), packing.framed(b"\3\0"), *(packing.numbered(t, s, 0) for t, s in ((2, 1), (9, 2), (10, 1)))]
 
 
 @functools.cache
 def pairs_by_rest(listing):
-    """Two records for each rest that the length of their lines leaves when it is divided by eight."""
+    """Two of them for each rest."""
     return {len(listing.output(one + other)) % 8: one + other for one, other in itertools.product(SHORT, repeat=2)}
 
 
