@@ -23,7 +23,8 @@ import verify_cases
 from verifying import ROOT, Wrong, contents, ended, language, parsed, sure, verdict
 
 LIMIT = 300  # seconds for a check
-BUILT = ("staticlib/libghanveltri.a", "host/libghanveltri.*", "host/packing_list", "bin/packing_list", "must-fail/*/*/.log")  # of target
+LISTS = ("host/packing_list", "bin/packing_list", "host/explain", "bin/explain")  # the programs that list
+BUILT = ("staticlib/libghanveltri.a", "host/libghanveltri.*", *LISTS, "must-fail/*/*/.log")  # of target
 RIGHT = ".right"  # after the name of a program, as it was built
 
 # What is held of the sources.
@@ -70,14 +71,14 @@ def written(change):
     return lambda path: path.write_text(change(path.read_text(encoding="utf-8")), encoding="utf-8")
 
 
+def swapped(text, old, new):
+    """A text with one part for another, which is there once."""
+    sure(text.count(old) == 1, f"{old!r} is there {text.count(old)} times")
+    return text.replace(old, new)
+
+
 def swap(old, new):
-    """One text for another, which is there once."""
-
-    def change(text):
-        sure(text.count(old) == 1, f"{old!r} is there {text.count(old)} times")
-        return text.replace(old, new)
-
-    return written(change)
+    return written(lambda text: swapped(text, old, new))
 
 
 def drop(start, times=1):
@@ -119,6 +120,18 @@ def exchange(one, other):
     return change
 
 
+def explains_by(old, new):
+    """A program that explains as it is worked out, with one part of the oracle for another."""
+
+    def change(path):
+        host = path.parents[2] / "host"
+        oracle = swapped((host / "oracle.py").read_text(), old, new)
+        begin = f"#!{sys.executable} -B\nimport sys\nsys.path.insert(0, {str(host)!r})\nimport oracle\nexec({oracle!r}, vars(oracle))\n"
+        path.write_text(f"{begin}import explaining\nsys.stdout.buffer.write(explaining.output(sys.stdin.buffer.read()))\n")
+
+    return change
+
+
 def gone(path):
     path.unlink()
 
@@ -130,6 +143,7 @@ COMMANDS = {  # where it is not the host test as it stands
     "checks_can_fail": ("host/tests/checks_can_fail", "--sources"),
     "functions_agree": ("host/tests/functions_agree", "--brief"),
     "packing_list_agrees": ("host/tests/packing_list_agrees", "sample"),
+    "explain_agrees": ("host/tests/explain_agrees", "examples"),
     "stored_outputs_right": ("host/tests/stored_outputs_right", "counts", "lists", "order", "check"),
 }
 ENDS = {"the gate": "\n2 passed, 0 failed\n"}  # what it says at last where nothing is broken
@@ -147,13 +161,14 @@ GATE = {
 
 
 def listed_through(script):
-    """A packing list whose lines are edited before they are printed."""
+    """A program whose lines are edited before they are printed."""
     return f"#!/bin/sh\nPATH=/usr/bin:/bin\n\"$0{RIGHT}\" | sed '{script}'\n"
 
 
 LESS = listed_through("2d")  # it loses its second line
 UNSIGNED = listed_through(r"s/ -\([0-9]\)/ \1/")  # it prints no sign
 NO_SURPLUS = listed_through("/^refused/s/ [^ ]*$//")  # it prints no third field
+NO_ONES = listed_through("/^refused 6/s/ [^ ]* [^ ]*$//")  # it prints no fourth and fifth field
 SILENT = f'#!/bin/sh\nexec "$0{RIGHT}" "$@" 2>/dev/null\n'  # it tells no failure
 
 CLAIMS, VACUITY, SHAMS, REQUIRES = "docs/CLAIMS.md", "docs/VACUITY.md", "docs/SHAMS.md", "docs/REQUIRES.md"
@@ -165,6 +180,8 @@ SHAM, LOG = f"crates/refusal/must-fail/{EDIT}.edit", f"target/must-fail/refusal/
 HEADER, ARCHIVE, README = "include/ghanveltri.h", "target/host/libghanveltri.a", "README.md"
 PAGE, LIST_PAGE, EXAMPLE = "host/man/ghanveltri.3", "host/man/packing_list.1", "host/example.c"
 COMMAND, PROGRAM = "target/host/packing_list", "target/bin/packing_list"
+EXPLAIN, EXPLAIN_PROGRAM, EXPLAIN_PAGE, EXPLAINING = "target/host/explain", "target/bin/explain", "host/man/explain.1", "host/explaining.py"
+CHANGES, BEFORE = "changes(beats, own.after)", "form_of(t, s, (number_of(t, s, beats) - 1) % forms(t, s))"  # of the oracle; and the form before
 LOOK, LOOKUP, STREAM = "| `lookup` | `look` |", "crates/lookup/src/lib.rt", "crates/stream/src/lib.rt"
 GROUND, WALK, ORACLE, PACKING = "crates/cases_ground/stdout", "crates/cases_walk/stdout", "host/oracle.py", "host/packing.py"
 VERIFY_CASES, INDEPENDENT, STDIO = "host/verify_cases.py", "host/independent.c", "bench/packing_stdio.c"
@@ -312,6 +329,8 @@ BREAKS = {
         Break("a function gone from the page", PAGE, drop('.BI "uint64_t gv_version('), ("gv_version",)),
         Break("a surplus gone from the page", PAGE, drop('.BI "int32_t gv_check_surplus('), ("gv_check_surplus is missing",)),
         Break("no surplus in the example", LIST_PAGE, swap("\nrefused 7 0 0\n", "\nrefused 7 0\n"), ("packing_list.1: the example",)),
+        Break("another place in the example", EXPLAIN_PAGE, swap("\n4 2 2 1 2\n", "\n4 2 2 1 3\n"), ("explain.1: the example",)),
+        Break("an option gone from a command's page", EXPLAIN_PAGE, drop(".B \\-\\-version"), ("explain.1: OPTIONS has other options",)),
         Break("another number of a refusal", PAGE, swap('GV_RUN_TOO_LONG " (13)"', 'GV_RUN_TOO_LONG " (14)"'), ("GV_RUN_TOO_LONG",)),
     ],
     "shared_library_agrees": [
@@ -340,15 +359,36 @@ BREAKS = {
         Break("a sign lost", PROGRAM, becomes(UNSIGNED), ("line 2", "b'refused 6 0 -1' is right"), {}, ("miscounted",)),
         Break("no sign worked out", PACKING, swap("{why.surplus}", "{abs(why.surplus)}"), ("miscounted: worked out wrongly: line 2",), {}, ("miscounted",)),
     ],
+    "explain_agrees": [
+        Break("a line lost", EXPLAIN, becomes(LESS), ("examples", "line 2")),
+        Break("a line lost by the Rattle program", EXPLAIN_PROGRAM, becomes(LESS), ("examples", "line 2"), OPTIMIZED),
+        Break("no Rattle program", EXPLAIN_PROGRAM, gone, (EXPLAIN_PROGRAM, "rt check explain")),
+        Break("case 4 where both shifts agree", EXPLAIN, explains_by("if k + 1 <=", "if beats[k:][:1] == [0] and k + 1 <="), ("line 2", "got b'4 2")),
+        Break("case 2 for one form", EXPLAIN_PROGRAM, explains_by("forms(t, s) == 1", "s == 0"), ("b'1 - - -' is right, got b'2 - 1 -'",)),
+        Break("the found 1 counted from 1", EXPLAIN, explains_by("[k - 1 for k in own.found]", "own.found"), ("line 2", "got b'3 3 3 1 2'")),
+        Break("changed places counted from 1", EXPLAIN, explains_by("enumerate(zip(old, new))", "enumerate(zip(old, new), 1)"), ("got b'2 - 4 2 4'",)),
+        Break("changed places of the form before", EXPLAIN, explains_by(CHANGES, f"changes({BEFORE}, beats)"), ("changes to another",), {}, ("steps",)),
+        Break("changed places that descend", EXPLAIN, explains_by(CHANGES, f"{CHANGES}[::-1]"), ("do not ascend",), {}, ("steps",)),
+        Break("a changed place lost", EXPLAIN, explains_by(CHANGES, f"{CHANGES}[:1]"), ("steps", "no line of this form"), {}, ("steps",)),
+        Break("the rightmost 1 found", EXPLAIN_PROGRAM, explains_by("rises[0]", "rises[-1]"), ("finds another 1 than that at 2",), {}, ("steps",)),
+        Break("the found 1 said to move", EXPLAIN, explains_by("Step(3, [k], [k + 1]", "Step(4, [k], [k]"), ("moves to another",), {}, ("steps",)),
+        Break("another case for the same places", EXPLAIN, explains_by("Step(3, [k]", "Step(4, [k]"), ("the places of case 3",), {}, ("steps",)),
+        Break("the rightmost 1 worked out", ORACLE, swap("rises[0]", "rises[-1]"), ("examples: worked out wrongly: line 4",)),
+        Break("no ones asked for and found", EXPLAIN, becomes(NO_ONES), ("got b'refused 6 0 1'",), {}, ("miscounted",)),
+        Break("the zeros asked for", EXPLAINING, swap("{body[2]}", "{body[3]}"), ("miscounted: worked out wrongly: line 1",), {}, ("miscounted",)),
+    ],
     "packing_programs_agree": [
         Break("a line lost", PROGRAM, becomes(LESS), ("packing_list",)),
         off_the_other_way(STDIO, "ones", "t", "packing_stdio does not write"),
     ],
     "faults_are_told": [
         Break("a failure not told", COMMAND, becomes(SILENT), ("stop_behind_a_9 of packing_list: ", "full_device of packing_list: command ")),
+        Break("a failure not told by explain", EXPLAIN, becomes(SILENT), ("full_device of packing_list: ", "full_device of explain: command ")),
     ],
     "installed_example_runs": [
         Break("no command", COMMAND, gone, (COMMAND,)),
+        Break("no command to explain", EXPLAIN, gone, (EXPLAIN,)),
+        Break("another place stored", "crates/explain/stdout", swap("4 2 2 1 2", "4 2 2 1 3"), ("the installed explain does not list",)),
         Break("another line shown", README, swap("\n    4 steps back: 11010,", "\n    4 steps back: 11100,"), ("README.md does not show",)),
         Break("a surplus shown otherwise", EXAMPLE, swap("-surplus);", "surplus);"), ("does not print what it should",)),
     ],
@@ -376,7 +416,7 @@ def copied(folder):
         to = copy / path.relative_to(ROOT)
         to.parent.mkdir(parents=True, exist_ok=True)
         shutil.copy2(path, to)
-        if path.name == "packing_list":
+        if str(path.relative_to(ROOT / "target")) in LISTS:
             shutil.copy2(path, f"{to}{RIGHT}")
     for name, text in GATE.items():
         (copy / name).parent.mkdir(parents=True, exist_ok=True)
