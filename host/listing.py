@@ -140,9 +140,9 @@ def hold(case, lister, run, status=LISTED, said=b"", output=b""):
         raise Difference(f"{name}: {where}; then {shown(output[same:])} is right, got {shown(run.output[same:])}")
 
 
-def missing(*listings):
-    """What to say of the first program of these lists that is not there, or None."""
-    for lister in (lister for listing in listings for lister in listing.both):
+def missing(listers):
+    """What to say of the first of these programs that is not there, or None."""
+    for lister in listers:
         if not os.access(lister.path, os.X_OK):
             return f"there is no {lister.path}: {lister.how}"
     return None

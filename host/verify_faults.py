@@ -276,7 +276,7 @@ def texts(listing):
     yield hold("--version", listing.command, run(listing.command, "--version"), LISTED, b"", f"{listing.name} {version}\n".encode())
     done = run(listing.command, "--help")
     yield hold("--help", listing.command, done, LISTED, b"", done.output)
-    for word in (f"usage: {listing.name} [FILE]\n", "--help", "--version", "standard input", "Status: 0 "):
+    for word in (f"usage: {listing.name} [FILE]\n", "--help", "--version", "standard input", "Status: 0 ", "the call is wrong.\n"):
         if word.encode() not in done.output:
             raise Difference(f"{listing.command}: --help does not say {word!r}")
     for word in ("--help", "--version"):
@@ -307,8 +307,9 @@ PARTS = (
 
 
 def main():
-    if missing(*LISTINGS):
-        print(missing(*LISTINGS))
+    lacking = missing(lister for listing in LISTINGS for lister in listing.both)
+    if lacking:
+        print(lacking)
         return 1
     os.chdir(ROOT)
     injected.build()

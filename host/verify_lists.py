@@ -435,8 +435,8 @@ def arguments():
 
 def main():
     given = arguments()
-    if not given.program and missing(given.list):
-        print(missing(given.list))
+    if not given.program and missing(given.list.both):
+        print(missing(given.list.both))
         return 1
     programs = [os.path.abspath(given.program)] if given.program else [lister.path for lister in given.list.both]
     verifier = Verifier(given.list, programs, random.SystemRandom().getrandbits(32) if given.seed is None else given.seed)

@@ -136,8 +136,9 @@ def page_faults(page):
 
 
 def main():
-    if not ARCHIVE.exists() or missing(*LISTINGS):
-        print(missing(*LISTINGS) or f"there is no {ARCHIVE}: {HOW}")
+    lacking = missing(listing.command for listing in LISTINGS)
+    if not ARCHIVE.exists() or lacking:
+        print(lacking or f"there is no {ARCHIVE}: {HOW}")
         return 1
     functions = declared()
     pages = sorted(PAGES.iterdir())
