@@ -43,8 +43,22 @@ MARK = re.compile(r"\[([A-Z]+\d+[a-z]?)\]")
 NUMBER = re.compile(r"[\w-]*\d[\w-]*")
 STACK = re.compile(r"up to (\d+) KB of stack")
 
-# Calls gv_packing_list, of standard input to standard output, on a stack of its own, and tells on standard error how
+# What the comment on explain says with a number. functions_agree holds it, by the examples of host/explaining.c.
+EXPLAINED = (
+    "The found 1 is the 1 of the leftmost 0 followed by 1",
+    "1: the counts have one form only",
+    "2: no 0 is followed by 1,",
+    "3: the beat after the found 1 moves",
+    "if it is a 1, moving the found 1 would",
+    "4: the found 1 moves",
+    "the found 1 in the cases 3 and 4",
+    "moves in the cases 2 to 4",
+    "counted by `which` from 0",
+)
+
+# Calls LIST, one of LISTS, of standard input to standard output, on a stack of its own, and tells on standard error how
 # many bytes of it were written.
+LISTS = ("gv_packing_list", "gv_explain_list")
 STACK_PROGRAM = """
 #include <stdio.h>
 #include <string.h>
@@ -54,7 +68,7 @@ static char stack[1 << 20];
 static uint64_t answer;
 
 static void list(void) {
-    answer = gv_packing_list(0, 1);
+    answer = LIST(0, 1);
 }
 
 int main(void) {
@@ -135,6 +149,7 @@ def constants_of_crates():
         "GV_MAX_TASKS": largest,
         "GV_MAX_BEATS": 2 * largest,
         "GV_MAX_STEPS": number_in("circle/src/lib.rt", r"pub const LONGEST_RUN: u64 = ([\d_]+);"),
+        "GV_NO_PLACE": number_in("reason/specs/Explanation.antt", r"\nnoPlace = (\d+)\n"),
         "GV_VERSION": version,
         "GV_VERSION_MAJOR": version // 1000000,
         "GV_VERSION_MINOR": version // 1000 % 1000,
@@ -219,20 +234,22 @@ def held():
         f"After {NOT_READ} and {NOT_WRITTEN} errno": "faults_are_told",
         "sets it to 0 before finds 0 then": "faults_are_told",
         f"up to {stack_said()} KB of stack": "measured, see stack_faults",
+        **dict.fromkeys(EXPLAINED, "functions_agree"),
     }
 
 
 def stack_said():
-    """The stack that the comments say gv_packing_list needs, in units of 1000 bytes."""
+    """The stack that the comments say a list needs, in units of 1000 bytes."""
     return next((int(found) for comment in comments() for found in STACK.findall(comment)), 0)
 
 
-def stack_used():
-    """The bytes of stack that gv_packing_list needs for the sample."""
+def stack_used(name):
+    """The bytes of stack that a list needs for the sample."""
     with tempfile.TemporaryDirectory() as folder, open(SAMPLE, "rb") as sample:
         program = pathlib.Path(folder, "program")
         text = f'#include "{HEADER}"\n{STACK_PROGRAM}'
-        subprocess.run(["gcc", "-x", "c", "-", "-x", "none", ARCHIVE, "-o", program], input=text, text=True, check=True)
+        command = ["gcc", f"-DLIST={name}", "-x", "c", "-", "-x", "none", ARCHIVE, "-o", program]
+        subprocess.run(command, input=text, text=True, check=True)
         done = subprocess.run([program], stdin=sample, stdout=subprocess.DEVNULL, stderr=subprocess.PIPE, check=True)
     return int(done.stderr)
 
@@ -277,10 +294,11 @@ def number_faults():
 
 
 def stack_faults():
-    """The stack that is said is enough, and at most a quarter more than what is needed."""
-    said, used = 1000 * stack_said(), stack_used()
-    if not used <= said <= used * 5 / 4:
-        yield f"gv_packing_list needs {used} bytes of stack, and the header says {said}"
+    """The stack that is said is enough for each list, and at most a quarter more than what the larger one needs."""
+    said, used = 1000 * stack_said(), {name: stack_used(name) for name in LISTS}
+    for name, needed in used.items():
+        if not needed <= said <= max(used.values()) * 5 / 4:
+            yield f"{name} needs {needed} bytes of stack, and the header says {said}"
 
 
 def mark_faults():

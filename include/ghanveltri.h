@@ -9,21 +9,22 @@
  *
  * Rules for every function:
  * - It takes every number and every content of the lent bytes, and ends. It does its work, or refuses by one
- *   of the numbers below. A refused call leaves every lent byte as it was. gv_packing_list refuses nothing: it
- *   ends when its input does, and answers numbers of its own.
+ *   of the numbers below. A refused call leaves every lent byte as it was. The lists, gv_packing_list and
+ *   gv_explain_list, refuse nothing: they end when their input does, and answer numbers of their own.
  * - It answers one number; gv_refusal_text alone answers a text. Of check, count and number each part has a
  *   function of its own: `_refusal` answers GV_ACCEPTED or the refusal, `_place` the beat at fault, or 0 where
  *   there is none, gv_count and gv_number the value, 0 after a refusal, and `_surplus`, of check and number, the
  *   ones minus t after GV_WRONG_TAKE_UPS, and else 0. gv_form, gv_next, gv_previous, gv_run and gv_run_back
  *   answer GV_ACCEPTED or the refusal, and `_changed` the beats that a step or a run would change, 0 after a
- *   refusal, which is that of the step or the run.
+ *   refusal, which is that of the step or the run. Of explain, gv_explain_case answers 0 after a refusal, and
+ *   the other three, which answer a place, answer GV_NO_PLACE.
  * - A slice is a pointer and, right after it, its length in bytes. Nothing outside the slice is read or
  *   written, and a slice that is lent as const is only read.
  * - The caller owes a pointer that is valid for the length, and is not NULL even if the length is 0; slices
  *   of one call that do not overlap; and that nobody else writes a slice during the call, nor reads one that
  *   is not const.
  * - It keeps no pointer, allocates no memory, and has no state that calls share: any number of threads may
- *   call at the same time. All but gv_packing_list read and write no file.
+ *   call at the same time. All but the lists read and write no file.
  *
  * The marks in brackets are claims of docs/CLAIMS.md, which leads from them to the proofs.
  */
@@ -39,7 +40,7 @@ extern "C" {
 
 /* The version of this header. A new major version may ask callers to change. */
 #define GV_VERSION_MAJOR 1
-#define GV_VERSION_MINOR 3
+#define GV_VERSION_MINOR 4
 #define GV_VERSION_PATCH 0
 #define GV_VERSION (GV_VERSION_MAJOR * 1000000 + GV_VERSION_MINOR * 1000 + GV_VERSION_PATCH)
 
@@ -47,12 +48,14 @@ extern "C" {
 #define GV_MAX_BEATS 64    /* the largest t + s */
 #define GV_MAX_STEPS 65535 /* the most steps of a run */
 
+#define GV_NO_PLACE 18446744073709551615u /* no such place, as the functions of explain answer it */
+
 /*
  * The refusals. A number never changes its meaning; new ones follow the last. The functions below give those
  * from GV_TOO_MANY_TASKS to GV_NO_SUCH_NUMBER, and GV_RUN_TOO_LONG. The others are of parts of the library that
  * have no C function: tree tables (GV_NO_SUCH_TABLES), order records (GV_CUT_SHORT to GV_NO_ROOM) and sheets
- * (GV_NO_ROOM). A line of gv_packing_list has the refusal, the place and the surplus of its record. A place or
- * a surplus that is not named here is 0. [R1] [R2]
+ * (GV_NO_ROOM). A line of a list has the refusal, the place and the surplus of its record. A place or a surplus
+ * that is not named here is 0. [R1] [R2]
  */
 #define GV_ACCEPTED 0          /* no refusal */
 #define GV_TOO_MANY_TASKS 1    /* t is above GV_MAX_TASKS */
@@ -148,6 +151,29 @@ uint64_t gv_next(uint64_t t, uint64_t s, uint8_t *beats, size_t length);
 uint64_t gv_next_changed(uint64_t t, uint64_t s, const uint8_t *beats, size_t length);
 
 /*
+ * Why does gv_next move a beat?
+ * A beat that moves goes to the second place, and those from there up to it go one place on. The found 1 is
+ * the 1 of the leftmost 0 followed by 1.
+ * gv_explain_case answers the first of these cases that holds, and 0 after a refusal:
+ *   1: the counts have one form only, and no beat moves;
+ *   2: no 0 is followed by 1, and the last beat moves;
+ *   3: the beat after the found 1 moves, because it is there and moving it gives a schedule; if it is a 1,
+ *      moving the found 1 would give the same form;
+ *   4: the found 1 moves.
+ * gv_explain_found answers the place of the found 1 in the cases 3 and 4, and gv_explain_moved the place of the
+ * beat that moves in the cases 2 to 4.
+ * gv_explain_changed_place answers one of the places whose beats gv_next would change, counted by `which` from
+ * 0, the leftmost first. There are as many as gv_next_changed answers.
+ * These three answer GV_NO_PLACE where there is no such place, and after a refusal. A refusal is
+ * gv_check_refusal's, its place gv_check_place's, and its surplus gv_check_surplus's.
+ * In: t, s, beats, which. Writes nothing. [X5]
+ */
+uint64_t gv_explain_case(uint64_t t, uint64_t s, const uint8_t *beats, size_t length);
+uint64_t gv_explain_found(uint64_t t, uint64_t s, const uint8_t *beats, size_t length);
+uint64_t gv_explain_moved(uint64_t t, uint64_t s, const uint8_t *beats, size_t length);
+uint64_t gv_explain_changed_place(uint64_t t, uint64_t s, const uint8_t *beats, size_t length, uint64_t which);
+
+/*
  * Takes a form one step back: to the one form of t, s whose next form it is.
  * gv_previous answers what gv_check_refusal answers; the place of a refusal is gv_check_place's, and its
  * surplus gv_check_surplus's.
@@ -185,8 +211,9 @@ uint64_t gv_run_back(uint64_t t, uint64_t s, uint8_t *beats, size_t length, uint
 uint64_t gv_run_back_changed(uint64_t t, uint64_t s, const uint8_t *beats, size_t length, uint64_t steps);
 
 /*
- * Lists the order records of one open descriptor to another, a line for each, as the command packing_list
- * does: up to the end of the input, or to a record that is refused with GV_CUT_SHORT.
+ * Lists the order records of one open descriptor to another, a line for each: up to the end of the input, or to
+ * a record that is refused with GV_CUT_SHORT. gv_packing_list writes the lines of the command packing_list;
+ * gv_explain_list those of the command explain, which say why gv_next moves a beat of the form.
  * Answers 0 when all was listed, a stop after such a record included; 1 when reading failed, after the lines
  * of all records that had come; 2 when writing failed, and what was written is the start of the list. A call
  * that was interrupted is made again. An input or output that is not ready (O_NONBLOCK) is a failure, and no
@@ -197,9 +224,10 @@ uint64_t gv_run_back_changed(uint64_t t, uint64_t s, const uint8_t *beats, size_
  * rest. Both stay open, and `from` may have been read past the record that stopped the list.
  * It waits as long as the system's read and write do, and needs up to 150 KB of stack. Signals are the
  * caller's affair: SIGPIPE (a reader left) and SIGXFSZ (a limit of size) end a process that does not ignore,
- * block or catch them. [E18]
+ * block or catch them. [E18] [X10]
  */
 uint64_t gv_packing_list(int32_t from, int32_t to);
+uint64_t gv_explain_list(int32_t from, int32_t to);
 
 #ifdef __cplusplus
 }
