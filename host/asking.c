@@ -101,7 +101,17 @@ void rely(int holds, const char *what, uint64_t t, uint64_t s) {
     give_up();
 }
 
-/* A surplus has a sign. The other answers have none, and where they are right they are below 2^63. */
+void require(int holds, const char *what, const struct input *in) {
+    if (holds)
+        return;
+    printf("t = %" PRIu64 ", s = %" PRIu64 ", slice = ", in->t, in->s);
+    print_bytes(in->beats, in->length);
+    printf(": %s", what);
+    give_up();
+}
+
+/* A surplus has a sign. The other answers have none, and where they are right they are below 2^63, or no place, which
+   shows as -1. */
 static void expect(int64_t expected, int64_t got) {
     if (expected == got)
         return;
@@ -152,10 +162,15 @@ static void ask_counts(const char *name, counts_function *call, const struct inp
     expect(expected, call(in->t, in->s));
 }
 
-static void ask_reading(const char *name, reading_function *call, const struct input *in, uint64_t expected) {
-    const uint8_t *beats = lend_for_reading(in->beats, in->length);
+/* The beats are lent already. */
+static void ask_lent(const char *name, reading_function *call, const struct input *in, const uint8_t *beats,
+                     uint64_t expected) {
     begin(name, in, 1, NULL, 0);
     expect(expected, call(in->t, in->s, beats, in->length));
+}
+
+static void ask_reading(const char *name, reading_function *call, const struct input *in, uint64_t expected) {
+    ask_lent(name, call, in, lend_for_reading(in->beats, in->length), expected);
     expect_left(in->beats);
 }
 
@@ -212,6 +227,15 @@ static void ask_form(const struct input *in, uint64_t number, uint64_t refusal, 
     expect_left(left);
 }
 
+void read_digits(struct input *in, uint64_t t, uint64_t s, const char *digits) {
+    size_t at;
+    in->t = t;
+    in->s = s;
+    in->length = strlen(digits);
+    for (at = 0; at < in->length; at++)
+        in->beats[at] = (uint8_t)(digits[at] - '0');
+}
+
 /* What one input should give. */
 
 void verify_version(void) {
@@ -249,6 +273,29 @@ void verify_previous(const struct input *in, uint64_t refusal, uint64_t changed,
     ask_step("gv_previous", gv_previous, in, refusal, left);
 }
 
+/* The four calls are lent one slice: lending takes longer than a call that is refused. */
+void verify_explanation(const struct input *in, uint64_t refusal, uint64_t which) {
+    static const struct explanation none = {0, NO_PLACE, NO_PLACE, 0, {0}};
+    const uint8_t *beats = lend_for_reading(in->beats, in->length);
+    struct explanation own;
+    const struct explanation *why = refusal != 0 ? &none : &own;
+    if (refusal == 0)
+        explain_step(in->t, in->s, in->beats, &own);
+    ask_lent("gv_explain_case", gv_explain_case, in, beats, why->reason);
+    ask_lent("gv_explain_found", gv_explain_found, in, beats, why->found);
+    ask_lent("gv_explain_moved", gv_explain_moved, in, beats, why->moved);
+    begin("gv_explain_changed_place", in, 1, "which", which);
+    expect(changed_place(why, which), gv_explain_changed_place(in->t, in->s, beats, in->length, which));
+    expect_left(in->beats);
+}
+
+/* Which changed place is asked for next: those that there may be, in turn, and some that there are not. */
+static uint64_t next_which(void) {
+    static const uint64_t places[] = {0, 1, 2, 3, 4, UINT64_C(1) << 32, UINT64_MAX};
+    static size_t turn;
+    return places[turn++ % (sizeof places / sizeof places[0])];
+}
+
 void verify_schedule(const struct input *in) {
     struct verdict verdict = judge_schedule(in->t, in->s, in->beats, in->length);
     uint64_t number = 0, changed = 0, changed_back = 0;
@@ -272,6 +319,7 @@ void verify_schedule(const struct input *in) {
     ask_reading("gv_next_changed", gv_next_changed, in, changed);
     ask_step("gv_next", gv_next, in, verdict.refusal, next);
     verify_previous(in, verdict.refusal, changed_back, previous);
+    verify_explanation(in, verdict.refusal, next_which());
 }
 
 void verify_run(const struct input *in, uint64_t steps) {
@@ -361,6 +409,10 @@ static uint64_t run_back_changed_of_zeros(uint64_t t, uint64_t s, const uint8_t 
     return gv_run_back_changed(t, s, beats, length, 1);
 }
 
+static uint64_t changed_place_of_zeros(uint64_t t, uint64_t s, const uint8_t *beats, size_t length) {
+    return gv_explain_changed_place(t, s, beats, length, 0);
+}
+
 void verify_long_slice(void) {
     const uint8_t *zeros = map_zeros(LONG_LENGTH);
     ask_long("gv_check_refusal", gv_check_refusal, zeros, 3);
@@ -375,6 +427,10 @@ void verify_long_slice(void) {
     ask_long("gv_next_changed", gv_next_changed, zeros, 0);
     ask_long("gv_previous", previous_of_zeros, zeros, 3);
     ask_long("gv_previous_changed", gv_previous_changed, zeros, 0);
+    ask_long("gv_explain_case", gv_explain_case, zeros, 0);
+    ask_long("gv_explain_found", gv_explain_found, zeros, NO_PLACE);
+    ask_long("gv_explain_moved", gv_explain_moved, zeros, NO_PLACE);
+    ask_long("gv_explain_changed_place", changed_place_of_zeros, zeros, NO_PLACE);
     ask_long("gv_run", run_of_zeros, zeros, 3);
     ask_long("gv_run_changed", run_changed_of_zeros, zeros, 0);
     ask_long("gv_run_back", run_back_of_zeros, zeros, 3);

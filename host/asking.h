@@ -20,6 +20,9 @@ struct input {
     uint8_t beats[ROOM];
 };
 
+/* Counts, and beats by their digits. */
+void read_digits(struct input *in, uint64_t t, uint64_t s, const char *digits);
+
 /* Makes the memory to lend, and reports a call that ends in a signal or does not end. */
 void begin_asking(uint64_t seed);
 
@@ -32,11 +35,15 @@ void verify_version(void);
 /* gv_count and what belongs to it. */
 void verify_counts(uint64_t t, uint64_t s);
 
-/* Everything that is asked of counts and a slice alone: check, number, next, previous. */
+/* Everything that is asked of counts and a slice alone: check, number, next, previous, explain. */
 void verify_schedule(const struct input *in);
 
 /* gv_previous and gv_previous_changed, held to what the caller gives. */
 void verify_previous(const struct input *in, uint64_t refusal, uint64_t changed, const uint8_t *left);
+
+/* gv_explain_case, gv_explain_found, gv_explain_moved, and gv_explain_changed_place of one place; the refusal is the
+   schedule's. */
+void verify_explanation(const struct input *in, uint64_t refusal, uint64_t which);
 
 /* gv_run and gv_run_changed; and, where that is no refusal, as many steps back from where it leads to. */
 void verify_run(const struct input *in, uint64_t steps);
@@ -49,6 +56,9 @@ void verify_form(const struct input *in, uint64_t number);
 
 /* A slice of 2^32 + 5 bytes, whose length is t + s in its low half alone. */
 void verify_long_slice(void);
+
+/* Ends the program where the library's answers to several calls on an input do not fit together. */
+void require(int holds, const char *what, const struct input *in);
 
 /* Ends the program where host/independent.c is itself not as it should be for t, s. */
 void rely(int holds, const char *what, uint64_t t, uint64_t s);

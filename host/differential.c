@@ -2,8 +2,8 @@
  * Holds every function of include/ghanveltri.h to host/independent.c: differential [--brief] [SEED].
  *
  * Exhaustive for small counts and short lists, random for the rest: host/choosing.c chooses, host/asking.c makes
- * the calls. The random part comes from a new seed, which is printed; giving it repeats a run. --brief makes every
- * part smaller. Ends with status 1 at the first difference.
+ * the calls, and the part of the explanations is host/explaining.c. The random part comes from a new seed, which is
+ * printed; giving it repeats a run. --brief makes every part smaller. Ends with status 1 at the first difference.
  */
 #define _POSIX_C_SOURCE 200809L
 #include <inttypes.h>
@@ -14,6 +14,7 @@
 
 #include "asking.h"
 #include "choosing.h"
+#include "explaining.h"
 #include "independent.h"
 
 /* How far each part goes. */
@@ -52,15 +53,6 @@ static const struct example EXAMPLES[] = {
     {4, 0, {"1111"}, {0}},
     {0, 0, {""}, {0}},
 };
-
-static void read_digits(struct input *in, uint64_t t, uint64_t s, const char *digits) {
-    size_t at;
-    in->t = t;
-    in->s = s;
-    in->length = strlen(digits);
-    for (at = 0; at < in->length; at++)
-        in->beats[at] = (uint8_t)(digits[at] - '0');
-}
 
 static void verify_example(const struct example *example) {
     uint64_t number, forms = count_by_formula(example->t, example->s);
@@ -118,6 +110,7 @@ static void refused_examples(void) {
 
 static void examples(void) {
     size_t at;
+    explained_examples();
     for (at = 0; at < sizeof EXAMPLES / sizeof EXAMPLES[0]; at++)
         verify_example(&EXAMPLES[at]);
     refused_examples();
@@ -173,6 +166,7 @@ static void two_ways(void) {
     uint64_t t, s;
     rely(MOST_TASKS == GV_MAX_TASKS && MOST_BEATS == GV_MAX_BEATS && MOST_STEPS == GV_MAX_STEPS,
          "the header has other limits", MOST_TASKS, MOST_TASKS);
+    rely(NO_PLACE == GV_NO_PLACE, "the header has another number for no place", 0, 0);
     hold_addition_rule();
     for (t = 0; t <= extent.small_count; t++)
         for (s = 0; s <= t; s++)
@@ -499,6 +493,7 @@ static const struct {
     {"two ways of the independent side", two_ways},
     {"examples", examples},
     {"circles back", circles_back},
+    {"explanations", explanations},
     {"small forms", small_forms},
     {"damaged forms", damaged_forms},
     {"surpluses", surpluses},

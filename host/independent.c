@@ -148,24 +148,25 @@ static size_t leftmost_rise(const uint8_t *beats, size_t length) {
     return 0;
 }
 
-/* The next form, into a place of its own. */
-static void next_form(uint64_t t, uint64_t s, const uint8_t *beats, uint8_t *out) {
+/* The next form, into a place of its own; answers the k of the prefix shift that gives it, or 0 where none does. */
+static size_t next_form(uint64_t t, uint64_t s, const uint8_t *beats, uint8_t *out) {
     size_t length = t + s;
     size_t k = leftmost_rise(beats, length);
     if (k == 0 && s == 0) {
         memcpy(out, beats, length);
-        return;
+        return 0;
     }
     if (k == 0) {
         prefix_shift(beats, length, length, out);
-        return;
+        return length;
     }
     if (k + 1 <= length) {
         prefix_shift(beats, length, k + 1, out);
         if (is_schedule(t, s, out, length))
-            return;
+            return k + 1;
     }
     prefix_shift(beats, length, k, out);
+    return k;
 }
 
 uint64_t step(uint64_t t, uint64_t s, uint8_t *beats) {
@@ -178,6 +179,35 @@ uint64_t step(uint64_t t, uint64_t s, uint8_t *beats) {
         beats[at] = next[at];
     }
     return changed;
+}
+
+/* How many forms begin with so many ones and zeros, each made on to its end; no more than `most` are made. */
+static uint64_t forms_from(uint64_t t, uint64_t s, uint64_t ones, uint64_t zeros, uint64_t most) {
+    uint64_t forms = 0;
+    if (ones == t && zeros == s)
+        return 1;
+    if (ones < t)
+        forms = forms_from(t, s, ones + 1, zeros, most);
+    if (forms < most && zeros < s && zeros < ones)
+        forms += forms_from(t, s, ones, zeros + 1, most - forms);
+    return forms;
+}
+
+void explain_step(uint64_t t, uint64_t s, const uint8_t *beats, struct explanation *why) {
+    uint8_t next[MOST_BEATS];
+    size_t at, found = leftmost_rise(beats, t + s), moved = next_form(t, s, beats, next);
+    int only = forms_from(t, s, 0, 0, 2) == 1;
+    why->reason = only ? 1 : found == 0 ? 2 : moved == found + 1 ? 3 : 4;
+    why->found = only || found == 0 ? NO_PLACE : found - 1;
+    why->moved = only ? NO_PLACE : moved - 1;
+    why->changes = 0;
+    for (at = 0; at < t + s; at++)
+        if (beats[at] != next[at])
+            why->changed[why->changes++] = at;
+}
+
+uint64_t changed_place(const struct explanation *why, uint64_t which) {
+    return which < why->changes ? why->changed[which] : NO_PLACE;
 }
 
 uint64_t walk(uint64_t t, uint64_t s, uint8_t *beats, uint64_t steps) {

@@ -22,6 +22,9 @@
 
 enum { MOST_BEATS = 2 * MOST_TASKS, MOST_STEPS = 65535 };
 
+/* What stands for a place that there is not. */
+#define NO_PLACE UINT64_MAX
+
 /* With more than 36 tasks there are counts that 64 bits do not hold: this line does not compile then. */
 typedef char counts_fit_64_bits[MOST_TASKS <= 36 ? 1 : -1];
 
@@ -29,6 +32,13 @@ typedef char counts_fit_64_bits[MOST_TASKS <= 36 ? 1 : -1];
 struct verdict {
     uint64_t refusal, place;
     int64_t surplus;
+};
+
+/* Why a step moves a beat: the case, and the places of the found 1, of the moved beat and of all changed beats. */
+struct explanation {
+    uint64_t reason, found, moved;
+    size_t changes;
+    uint64_t changed[MOST_BEATS];
 };
 
 /* What each call is refused for, in 01's order; the lengths are of the lent slices. */
@@ -50,6 +60,12 @@ void write_first(uint64_t t, uint64_t s, uint8_t *out);
 
 /* "The step", literally, in place; answers the beats that it changed. */
 uint64_t step(uint64_t t, uint64_t s, uint8_t *beats);
+
+/* What is to be said of the step, by taking it and comparing. */
+void explain_step(uint64_t t, uint64_t s, const uint8_t *beats, struct explanation *why);
+
+/* The which-th changed place of an explanation, from 0 on, or NO_PLACE. */
+uint64_t changed_place(const struct explanation *why, uint64_t which);
 
 /* As many steps; answers the beats changed at each, added up. */
 uint64_t walk(uint64_t t, uint64_t s, uint8_t *beats, uint64_t steps);
