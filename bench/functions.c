@@ -72,6 +72,16 @@ static const struct way ways[] = {
     {"next_changed", "gv", 1, .read = gv_next_changed},
     {"next_changed", "bytes", 1, .read = bytes_next_changed},
     {"next_changed", "words", 1, .read = words_next_changed},
+    {"explain_case", "gv", 1, .read = gv_explain_case},
+    {"explain_case", "bytes", 1, .read = bytes_explain_case},
+    {"explain_case", "words", 1, .read = words_explain_case},
+    {"explain_found", "gv", 0, .read = gv_explain_found},
+    {"explain_found", "bytes", 0, .read = bytes_explain_found},
+    {"explain_moved", "gv", 1, .read = gv_explain_moved},
+    {"explain_moved", "bytes", 1, .read = bytes_explain_moved},
+    {"explain_moved", "words", 1, .read = words_explain_moved},
+    {"explain_changed_place", "gv", 0, .trace = gv_explain_changed_place},
+    {"explain_changed_place", "bytes", 0, .trace = bytes_explain_changed_place},
     {"previous", "gv", 1, .step = gv_previous},
     {"previous", "bytes", 1, .step = bytes_previous},
     {"previous", "words", 1, .step = words_previous},
@@ -283,7 +293,7 @@ static void once(int off) {
 
 /* ---- agreement ---- */
 
-/* Everything that a call may be given; each function takes its part. */
+/* Everything that a call may be given; each function takes its part. The steps also say which changed place. */
 struct input {
     uint64_t t, s, number, steps;
     size_t length;

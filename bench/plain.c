@@ -259,6 +259,62 @@ uint64_t words_next_changed(uint64_t t, uint64_t s, const uint8_t *beats, size_t
     return changes(beats, length, words_front(beats, length));
 }
 
+/* ---- the explanation ---- */
+
+/* The case of a form: there is no other, no 0 is followed by 1, the beat after the found 1 moves, or the found 1. */
+static uint64_t case_of(uint64_t t, uint64_t s, const uint8_t *beats, size_t length, struct front front) {
+    if (s == 0 || t < 2) return 1;
+    if (front.one == length) return 2;
+    if (front.one + 1 < length && beats[front.one + 1] == 1) return 3;
+    return dips(beats, length, front) ? 3 : 4;
+}
+
+static uint64_t moved(uint64_t t, uint64_t s, const uint8_t *beats, size_t length, struct front front) {
+    switch (case_of(t, s, beats, length, front)) {
+    case 1: return GV_NO_PLACE;
+    case 2: return length - 1;
+    case 3: return front.one + 1;
+    default: return front.one;
+    }
+}
+
+uint64_t bytes_explain_case(uint64_t t, uint64_t s, const uint8_t *beats, size_t length) {
+    if (bytes_check(t, s, beats, length).refusal) return 0;
+    return case_of(t, s, beats, length, bytes_front(beats, length));
+}
+
+uint64_t bytes_explain_found(uint64_t t, uint64_t s, const uint8_t *beats, size_t length) {
+    if (bytes_check(t, s, beats, length).refusal) return GV_NO_PLACE;
+    size_t one = bytes_front(beats, length).one;
+    return one == length ? GV_NO_PLACE : one;
+}
+
+uint64_t bytes_explain_moved(uint64_t t, uint64_t s, const uint8_t *beats, size_t length) {
+    if (bytes_check(t, s, beats, length).refusal) return GV_NO_PLACE;
+    return moved(t, s, beats, length, bytes_front(beats, length));
+}
+
+/* The places at which the step stores, from the left. */
+uint64_t bytes_explain_changed_place(uint64_t t, uint64_t s, const uint8_t *beats, size_t length, uint64_t which) {
+    if (bytes_check(t, s, beats, length).refusal) return GV_NO_PLACE;
+    struct front front = bytes_front(beats, length);
+    if (which >= changes(beats, length, front)) return GV_NO_PLACE;
+    if (front.one == length) return which == 0 ? 1 : front.zero;
+    if (!dips(beats, length, front)) return which == 0 ? front.zero : front.one;
+    const size_t places[] = {1, front.zero, front.one, front.one + 1};
+    return places[which];
+}
+
+uint64_t words_explain_case(uint64_t t, uint64_t s, const uint8_t *beats, size_t length) {
+    if (words_check(t, s, beats, length).refusal) return 0;
+    return case_of(t, s, beats, length, words_front(beats, length));
+}
+
+uint64_t words_explain_moved(uint64_t t, uint64_t s, const uint8_t *beats, size_t length) {
+    if (words_check(t, s, beats, length).refusal) return GV_NO_PLACE;
+    return moved(t, s, beats, length, words_front(beats, length));
+}
+
 /* ---- the step back ---- */
 
 static size_t bytes_skip(const uint8_t *beats, size_t length, size_t from, uint8_t beat) {

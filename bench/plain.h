@@ -27,6 +27,14 @@ uint64_t bytes_next_changed(uint64_t t, uint64_t s, const uint8_t *beats, size_t
 uint64_t words_next(uint64_t t, uint64_t s, uint8_t *beats, size_t length);
 uint64_t words_next_changed(uint64_t t, uint64_t s, const uint8_t *beats, size_t length);
 
+/* The same check and scan, and a look at the beat after the found 1. */
+uint64_t bytes_explain_case(uint64_t t, uint64_t s, const uint8_t *beats, size_t length);
+uint64_t bytes_explain_found(uint64_t t, uint64_t s, const uint8_t *beats, size_t length);
+uint64_t bytes_explain_moved(uint64_t t, uint64_t s, const uint8_t *beats, size_t length);
+uint64_t bytes_explain_changed_place(uint64_t t, uint64_t s, const uint8_t *beats, size_t length, uint64_t which);
+uint64_t words_explain_case(uint64_t t, uint64_t s, const uint8_t *beats, size_t length);
+uint64_t words_explain_moved(uint64_t t, uint64_t s, const uint8_t *beats, size_t length);
+
 /* The same check, then scans for the ones and zeros in front, and for those that follow where the second beat is 0. */
 uint64_t bytes_previous(uint64_t t, uint64_t s, uint8_t *beats, size_t length);
 uint64_t bytes_previous_changed(uint64_t t, uint64_t s, const uint8_t *beats, size_t length);
