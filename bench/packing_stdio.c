@@ -1,4 +1,5 @@
-/* The packing list in C, the plain way: fread for the parts of a record, printf for a line, a loop over the beats. */
+/* The packing list in C, the plain way: fread for the parts of a record, printf for a line, a loop over the beats.
+   With the word explain after its name it writes what the explain program does: why the next form is what it is. */
 #include <stdint.h>
 #include <stdio.h>
 #include <string.h>
@@ -8,6 +9,7 @@
 enum { LONGEST = 1020 };
 
 static uint64_t forms[SIDE][SIDE];
+static int explaining;
 
 static void make_forms(void) {
     for (int t = 0; t <= LARGEST; t++)
@@ -19,8 +21,36 @@ static void refused(int refusal, int place, int surplus) {
     printf("refused %d %d %d\n", refusal, place, surplus);
 }
 
+static void miscounted(int t, int ones) {
+    printf("refused 6 0 %d", ones - t);
+    if (explaining)
+        printf(" %d %d", t, ones);
+    printf("\n");
+}
+
 static void accepted(int t, int s, uint64_t n, const char *beats) {
     printf("%d %d %llu %s\n", t, s, (unsigned long long)n, t == 0 ? "-" : beats);
+}
+
+/* The leftmost 0, the 1 of the leftmost 01 and the beat after it say which beat moves, and what changes. */
+static void explained(int t, int s, const char *beats) {
+    int zero = 0, one;
+    if (s == 0 || t == 1) {
+        printf("1 - - -\n");
+        return;
+    }
+    while (beats[zero] == '1')
+        zero++;
+    for (one = zero; beats[one] == '0';)
+        one++;
+    if (one == t + s)
+        printf("2 - %d 1 %d\n", one - 1, zero);
+    else if (beats[one + 1] == '1')
+        printf("3 %d %d %d %d\n", one, one + 1, zero, one);
+    else if (beats[one + 1] == '0' && one - zero < zero)
+        printf("3 %d %d 1 %d %d %d\n", one, one + 1, zero, one, one + 1);
+    else
+        printf("4 %d %d %d %d\n", one, one, zero, one);
 }
 
 /* The form of a number above 0, from the last beat on: a 1 belongs to the group of all s set-downs. */
@@ -76,7 +106,10 @@ static void numbered(int t, int s, const unsigned char *bytes) {
         return;
     }
     form(t, s, n == 0 ? forms[t][s] : n, beats);
-    accepted(t, s, n, beats);
+    if (explaining)
+        explained(t, s, beats);
+    else
+        accepted(t, s, n, beats);
 }
 
 static void packed(int t, int s, const unsigned char *bytes, int length) {
@@ -104,7 +137,9 @@ static void packed(int t, int s, const unsigned char *bytes, int length) {
     if (bare >= 0)
         refused(5, bare, 0);
     else if (ones != t)
-        refused(6, 0, ones - t);
+        miscounted(t, ones);
+    else if (explaining)
+        explained(t, s, beats);
     else
         accepted(t, s, number(t, s, beats), beats);
 }
@@ -137,9 +172,10 @@ static void line(const unsigned char *body, int length) {
         packed(t, s, body + 4, length - 4);
 }
 
-int main(void) {
+int main(int count, char **words) {
     unsigned char size[2], body[LONGEST];
     size_t got;
+    explaining = count > 1 && strcmp(words[1], "explain") == 0;
     make_forms();
     while ((got = fread(size, 1, 2, stdin)) > 0) {
         int length = size[0] | size[1] << 8;
