@@ -4,8 +4,9 @@
 Its name and its soname have the header's version. It exports the header's functions and nothing else, needs what the
 archive needs, runs nothing when it is loaded, and leaves no memory that can be written then; its code is not changed to
 load it, and its stack is not run. By ctypes, with the types of the header's own declarations, the functions answer and
-leave what host/oracle.py and host/packing.py work out, and a refusal leaves every lent byte, and those around them. The
-commands of ghanveltri(3), LINKING, build host/example.c and a plugin, each linked as the page says.
+leave what host/oracle.py, host/packing.py and host/explaining.py work out, and a refusal leaves every lent byte, and
+those around them. The commands of ghanveltri(3), LINKING, build host/example.c and a plugin, each linked as the page
+says.
 
 Prints each fault, and ends with status 1 if there is one.
 """
@@ -21,6 +22,7 @@ import subprocess
 import sys
 import tempfile
 
+import explaining
 import oracle
 import packing
 import records
@@ -36,6 +38,7 @@ SHARED = ROOT / "target/host" / FULL
 SAMPLE = ROOT / "crates/packing_list/stdin"
 MADE_BY_THE_LINKER = {".dynamic", ".got", ".got.plt"}
 AT_LOAD = ("INIT", "FINI", "INIT_ARRAY", "FINI_ARRAY", "PREINIT_ARRAY", "TEXTREL", "RPATH", "RUNPATH")
+LISTS = {"gv_packing_list": packing.output, "gv_explain_list": explaining.output}  # and what each writes
 GUARD = bytes(range(0xA0, 0xB0))  # none is a beat
 TOP = 2**64 - 1
 
@@ -190,6 +193,18 @@ def ask_beats(caller, t, s, beats):
     _, changed, before = oracle.run_back(t, s, beats, 1)
     caller.lend("gv_previous_changed", changed, t, s, beats)
     caller.lend("gv_previous", why.refusal, t, s, beats, left=before)
+    ask_explanation(caller, t, s, beats, (0, [], [], []) if why else oracle.explanation(t, s, beats))
+
+
+def ask_explanation(caller, t, s, beats, right):
+    """Every part of an explanation, and one changed place more than there are."""
+    none = constants()["GV_NO_PLACE"]
+    case, found, moved, changed = right
+    caller.lend("gv_explain_case", case, t, s, beats)
+    caller.lend("gv_explain_found", *(found or [none]), t, s, beats)
+    caller.lend("gv_explain_moved", *(moved or [none]), t, s, beats)
+    for which, place in (*enumerate([*changed, none]), (TOP, none)):
+        caller.lend("gv_explain_changed_place", place, t, s, beats, which)
 
 
 def ask_run(caller, t, s, beats, steps):
@@ -275,16 +290,21 @@ def file_with(data):
         yield file
 
 
-def ask_listing(caller):
-    """gv_packing_list from files and pipes to files, and where reading or writing fails."""
+def ask_lists(caller):
+    for name, output_of in LISTS.items():
+        ask_list(caller, name, output_of)
+
+
+def ask_list(caller, name, output_of):
+    """A list from files and pipes to files, and where reading or writing fails."""
     sample = SAMPLE.read_bytes()
     inputs = [sample, b"", sample + sample[:5], b"".join(records.stream(5, 500))]
     for opened in (pipe_with, file_with):
         for data in inputs:
             with opened(data) as source, tempfile.TemporaryFile() as to:
-                caller.call("gv_packing_list", LISTED, source.fileno(), to.fileno())
+                caller.call(name, LISTED, source.fileno(), to.fileno())
                 to.seek(0)
-                caller.hold("the list of", (len(data), "bytes"), packing.output(data), to.read())
+                caller.hold(f"what {name} writes of", (len(data), "bytes"), output_of(data), to.read())
     with file_with(sample) as source, open("/dev/full", "wb", buffering=0) as full, opened_folder() as folder:
         for right, number, call in (
             (NOT_READ, errno.EISDIR, (folder, full.fileno())),
@@ -292,8 +312,8 @@ def ask_listing(caller):
             (NOT_WRITTEN, errno.ENOSPC, (source.fileno(), full.fileno())),
         ):
             ctypes.set_errno(0)
-            caller.call("gv_packing_list", right, *call)
-            caller.hold("errno after gv_packing_list", call, number, ctypes.get_errno())
+            caller.call(name, right, *call)
+            caller.hold(f"errno after {name}", call, number, ctypes.get_errno())
 
 
 @contextlib.contextmanager
@@ -308,7 +328,7 @@ def opened_folder():
 def call_all(file):
     """The faults of all calls, and how many calls there were."""
     caller = Caller(loaded(file))
-    for ask in (ask_version, ask_circles, ask_largest, ask_refused, ask_miscounted, ask_listing):
+    for ask in (ask_version, ask_circles, ask_largest, ask_refused, ask_miscounted, ask_lists):
         ask(caller)
     return caller.faults, caller.calls
 
