@@ -228,6 +228,11 @@ def off_the_other_way(path, ones, t, *says):
     return Break("a surplus of the other sign", path, swap(f"{ones} - {t}", f"{t} - {ones}"), says)
 
 
+def moved_as_found(says):
+    """The places of the found 1 and of the moved beat, exchanged in the archive."""
+    return Break("found and moved exchanged", ARCHIVE, exchange("gv_explain_found", "gv_explain_moved"), (says,))
+
+
 def surplus_as_place(says):
     """The surplus and the place of the check, exchanged in the archive."""
     return Break("surplus and place exchanged", ARCHIVE, exchange("gv_check_surplus", "gv_check_place"), (says,))
@@ -323,6 +328,8 @@ BREAKS = {
         Break("a surplus gone", HEADER, drop("int32_t gv_check_surplus("), ("gv_check_surplus is not in the header",)),
         Break("a surplus without a sign", HEADER, swap("\nint32_t gv_number_s", "\nuint32_t gv_number_s"), ("gv_number_surplus of the header is",)),
         Break("other words of a surplus", HEADER, swap("never 0 after that", "never 1 after that"), ("nothing holds the 1", "'never 0 ")),
+        Break("a place for no place", HEADER, swap("GV_NO_PLACE 18446744073709551615u", "GV_NO_PLACE 64"), ("GV_NO_PLACE of the header is 64",)),
+        Break("another number of a case", HEADER, swap("4: the found 1 moves", "5: the found 1 moves"), ("nothing holds the 5", "'4: the found 1")),
         Break("the archive gone", ARCHIVE, gone, ("rt staticlib ghanveltri",)),
     ],
     "manual_agrees": [
@@ -336,6 +343,7 @@ BREAKS = {
     "shared_library_agrees": [
         Break("a function more in the header", HEADER, swap("gv_version(void);", "gv_version(void);\nint gv_more(void);"), ("gv_more",)),
         Break("a surplus of another type", HEADER, swap("\nint32_t gv_check_s", "\nuint64_t gv_check_s"), ("by ctypes, gv_check_surplus(",)),
+        Break("a place of another type", HEADER, swap("\nuint64_t gv_explain_m", "\nint32_t gv_explain_m"), ("by ctypes, gv_explain_moved(",)),
         off_the_other_way(ORACLE, "beats.count(1)", "t", "by ctypes, gv_check_surplus(", "by ctypes, gv_number_surplus("),
     ],
     "functions_agree": [
@@ -343,12 +351,16 @@ BREAKS = {
         *turned("gv_{}(", "next", "next_changed", "run"),
         *turned("gv_run_back_changed(", "run_changed"),
         surplus_as_place("gv_check_place("),
+        moved_as_found("gv_explain_found("),
+        Break("another case worked out", INDEPENDENT, swap("found + 1 ? 3 : 4", "found + 1 ? 4 : 3"), ("an example's case differs",)),
+        Break("another 1 found", INDEPENDENT, swap("NO_PLACE : found - 1", "NO_PLACE : found"), ("an example's found 1 differs",)),
         off_the_other_way(INDEPENDENT, "(int64_t)ones", "(int64_t)t", "an example's surplus differs"),
     ],
     "functions_programs_agree": [
         Break("two functions exchanged", ARCHIVE, exchange("gv_count_place", "gv_count_refusal"), ("count_refusal",)),
         *turned("{} by ", "next", "run_changed"),
         surplus_as_place("check_place by "),
+        moved_as_found("explain_found by "),
     ],
     "packing_list_agrees": [
         Break("a line lost", COMMAND, becomes(LESS), ("sample", "line 2")),
@@ -380,6 +392,7 @@ BREAKS = {
     "packing_programs_agree": [
         Break("a line lost", PROGRAM, becomes(LESS), ("packing_list",)),
         off_the_other_way(STDIO, "ones", "t", "packing_stdio does not write"),
+        Break("a case explained otherwise", STDIO, swap("one - zero < zero", "one - zero <= zero"), ("explain does not write",)),
     ],
     "faults_are_told": [
         Break("a failure not told", COMMAND, becomes(SILENT), ("stop_behind_a_9 of packing_list: ", "full_device of packing_list: command ")),
