@@ -54,6 +54,7 @@ use Rattle.demands.specs.Calls.{
   of-previous-changed,
   of-run-back,
   of-run-back-changed,
+  of-explain,
   of-number,
   of-form,
   of-form-on-sheet,
@@ -73,6 +74,7 @@ use Rattle.demands.specs.Calls.{
   in-previous-changed,
   in-run-back,
   in-run-back-changed,
+  in-explain,
   in-number,
   in-tree,
   in-write,
@@ -157,6 +159,7 @@ accepted-counts m x (of-run-back {t} {s} {b} {k}) g =
     accepted-schedule t s b (run-checked t s b k (taken _ _ (g .0 .0))) .0
 accepted-counts m x (of-run-back-changed {t} {s} {b} {k}) g =
     accepted-schedule t s b (run-checked t s b k (taken _ _ (g .0 .0))) .0
+accepted-counts m x (of-explain {t} {s} {b}) g = accepted-schedule t s b (sym (g .0 .0)) .0
 accepted-counts m x (of-number {t} {s} {b}) g = accepted-schedule t s b (taken _ _ (g .0 .0)) .0
 accepted-counts m x (of-form {t} {s} {n} {out}) g = form-counts t s n (form-allowed t s n out (sym (g .0 .0)) .0)
 accepted-counts m x (of-form-on-sheet {t} {s} {n} {sheet} {column}) g =
@@ -184,6 +187,7 @@ accepted-beats m x (of-run-back {t} {s} {b} {k}) in-run-back g =
     accepted-schedule t s b (run-checked t s b k (taken _ _ (g .0 .0))) .1
 accepted-beats m x (of-run-back-changed {t} {s} {b} {k}) in-run-back-changed g =
     accepted-schedule t s b (run-checked t s b k (taken _ _ (g .0 .0))) .1
+accepted-beats m x (of-explain {t} {s} {b}) in-explain g = accepted-schedule t s b (sym (g .0 .0)) .1
 accepted-beats m x (of-number {t} {s} {b}) in-number g = accepted-schedule t s b (taken _ _ (g .0 .0)) .1
 accepted-beats m x of-tree in-tree g = tree-sized _ refl (g .3) .1
 accepted-beats m x (of-write {kind} {t} {s} {b} {out}) in-write g =
@@ -200,6 +204,7 @@ asked-counts in-previous = (_, _, of-previous)
 asked-counts in-previous-changed = (_, _, of-previous-changed)
 asked-counts in-run-back = (_, _, of-run-back)
 asked-counts in-run-back-changed = (_, _, of-run-back-changed)
+asked-counts in-explain = (_, _, of-explain)
 asked-counts in-number = (_, _, of-number)
 asked-counts in-tree = (_, _, of-tree)
 asked-counts in-write = (_, _, of-write)

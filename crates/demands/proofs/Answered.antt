@@ -22,6 +22,7 @@ use Rattle.demands.specs.Calls.{
   previous-changed,
   run-back,
   run-back-changed,
+  explain,
   number,
   form,
   form-on-sheet,
@@ -43,6 +44,7 @@ call-answered (previous t s b) silent = silent _ _ _ ((refl, refl), refl)
 call-answered (previous-changed t s b) silent = silent _ _ _ ((refl, refl), refl)
 call-answered (run-back t s b k) silent = silent _ _ _ ((refl, refl), refl)
 call-answered (run-back-changed t s b k) silent = silent _ _ _ ((refl, refl), refl)
+call-answered (explain t s b) silent = silent _ _ _ ((refl, refl), refl)
 call-answered (number t s b) silent = silent _ _ _ ((refl, refl), refl)
 call-answered (form t s n out) silent = silent _ _ _ ((refl, refl), refl)
 call-answered (form-on-sheet t s n sheet column) silent = silent _ _ _ ((refl, refl), refl)

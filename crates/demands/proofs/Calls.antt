@@ -21,6 +21,8 @@ use Rattle.circle.specs.Step as rule
 use Rattle.circle.specs.Walk as walk
 use Rattle.circle.specs.Back as back
 use Rattle.circle_back.specs.Answers.{previousAnswer, runBackAnswer}
+use Rattle.reason.specs.Explanation.{explanationOf}
+use Rattle.reason.specs.Answers.{unless-refused, numbers}
 use Rattle.number.specs.Answers.{numberAnswer}
 use Rattle.tree.specs.Table.{Treed, filled, kept}
 use Rattle.tree.proofs.Theorems.{treed-one}
@@ -43,6 +45,7 @@ use Rattle.demands.specs.Calls.{
   previous-changed,
   run-back,
   run-back-changed,
+  explain,
   number,
   form,
   form-on-sheet,
@@ -93,6 +96,7 @@ call-unchanged (previous-changed t s b) why m x g = g .1
 call-unchanged (run-back t s b k) why m x g =
     stayed (judge (runRows t s b k)) (back.workedBack k b) (back.stepsBack k b) b (g .0 .0) (g .1)
 call-unchanged (run-back-changed t s b k) why m x g = g .1
+call-unchanged (explain t s b) why m x g = g .1
 call-unchanged (number t s b) why m x g = g .1
 call-unchanged (form t s n out) why m x g = g .1 ∙ ap (λ (l : List ℕ). l ∷ []) (still _ (g .0 .0) _ out)
 call-unchanged (form-on-sheet t s n sheet column) why m x g =
@@ -136,6 +140,15 @@ call-silent (previous t s b) why m x g i = no-value (previousAnswer t s b) why m
 call-silent (previous-changed t s b) why m x g i = no-value (previousAnswer t s b) why m (g .0) i
 call-silent (run-back t s b k) why m x g i = no-value (runBackAnswer t s b k) why m (g .0) i
 call-silent (run-back-changed t s b k) why m x g i = no-value (runBackAnswer t s b k) why m (g .0) i
+call-silent (explain t s b) why m x g i = by (checked t s b) (g .0 .0) (g .0 .1)
+  where
+    zeros : (i : ℕ) → _≡_ {A = ℕ} (getD (0 ∷ []) i 0) 0
+    zeros zero = refl
+    zeros (suc i) = refl
+
+    by : (v : Verdict) → Verdict.Refused why ≡ v → m ≡ numbers (unless-refused v (explanationOf b)) → getD m i 0 ≡ 0
+    by Verdict.Accepted e f = let z : _≡_ {A = ℕ} 0 1 = cc in absurd (omega arith)
+    by (Verdict.Refused r) e f = ap (λ (l : List ℕ). getD l i 0) f ∙ zeros i
 call-silent (number t s b) why m x g i = no-value (numberAnswer t s b) why m (g .0) i
 call-silent (form t s n out) why m x g i = no-numbers m (g .0 .1) i
 call-silent (form-on-sheet t s n sheet column) why m x g i = no-numbers m (g .0 .1) i
@@ -172,6 +185,7 @@ call-one (previous t s b) v w m k x y g h = same g h
 call-one (previous-changed t s b) v w m k x y g h = same g h
 call-one (run-back t s b n) v w m k x y g h = same g h
 call-one (run-back-changed t s b n) v w m k x y g h = same g h
+call-one (explain t s b) v w m k x y g h = same g h
 call-one (number t s b) v w m k x y g h = same g h
 call-one (form t s n out) v w m k x y g h = same g h
 call-one (form-on-sheet t s n sheet column) v w m k x y g h = same g h

@@ -34,6 +34,7 @@ use Rattle.demands.specs.Calls.{
   of-next,
   of-run,
   of-run-back,
+  of-explain,
   BeatsOf,
   in-check,
   Owed,
@@ -55,6 +56,8 @@ use Rattle.demands.proofs.Demands.{demands}
 use Rattle.demands.specs.Backwards.{Backwards}
 use Rattle.demands.proofs.Backwards.{backwards}
 use Rattle.demands.specs.Surplus.{About, lent-to}
+use Rattle.demands.specs.Explaining.{Explaining}
+use Rattle.demands.proofs.Explaining.{explaining}
 use Rattle.demands.specs.Examples.{
   InOrder,
   Changing,
@@ -239,4 +242,14 @@ backwards-200 p = omega (
   arith,
   accepted-counts {t = 200} {s = 0} _ _ (of-run-back {k = 0})
       (p .run-back-given (top 200 0) 0 (top-schedule 200 0 (omega arith)) (omega arith)) .0,
+)
+
+-- beats are explained for (3,2), and not for 200 tasks
+explaining-3 : Explaining 3 2
+explaining-3 = explaining 3 2 (omega arith, omega arith)
+
+explaining-200 : Explaining 200 0 → ⊥
+explaining-200 p = omega (
+  arith,
+  accepted-counts {t = 200} {s = 0} _ _ of-explain (p .told (top 200 0) (top-schedule 200 0 (omega arith)) .2) .0,
 )

@@ -6,6 +6,7 @@ pub mod Demands
 pub mod Backwards
 pub mod Near
 pub mod Surplus
+pub mod Explaining
 pub mod Cases
 pub mod Shams
 pub mod ShamsBack

@@ -58,6 +58,7 @@ use Rattle.demands.specs.Calls.{
   previous-changed,
   run-back,
   run-back-changed,
+  explain,
   number,
   form,
   form-on-sheet,
@@ -75,6 +76,7 @@ use Rattle.demands.specs.Calls.{
   of-previous-changed,
   of-run-back,
   of-run-back-changed,
+  of-explain,
   of-number,
   of-tree,
   of-write,
@@ -87,6 +89,7 @@ use Rattle.demands.specs.Calls.{
   in-previous-changed,
   in-run-back,
   in-run-back-changed,
+  in-explain,
   in-number,
   in-tree,
   in-write,
@@ -152,6 +155,8 @@ passes-six (previous t s b) v m x g =
     answers (lent-to of-previous in-previous) (checkRows t s b) (check-sixes t b s) _ (g .0 .0)
 passes-six (previous-changed t s b) v m x g =
     answers (lent-to of-previous-changed in-previous-changed) (checkRows t s b) (check-sixes t b s) _ (g .0 .0)
+passes-six (explain t s b) v m x g =
+    says (lent-to of-explain in-explain) (checkRows t s b) (check-sixes t b s) (g .0 .0)
 passes-six (number t s b) v m x g =
     answers (lent-to of-number in-number) (checkRows t s b) (check-sixes t b s) _ (g .0 .0)
 passes-six (run t s b k) v m x g = answers (lent-to of-run in-run) (runRows t s b k) (run-sixes t s b k) _ (g .0 .0)

@@ -1,7 +1,7 @@
 -- The library's entry points as calls, and what each of them answers and leaves, by the words of its contract;
 -- src/lib.rt proves that of each function. Those that are not here answer a part of these: each C function but
 -- gv_version one number of one of them, by an equation with the same definition, and the functions that take a list of
--- counts the same; the packing list's line is `packing`'s. Definitions only.
+-- counts the same; the lines of the lists are `lists`'. Definitions only.
 --     Call            an entry point with its numbers and with what is lent to it
 --     lent            what is lent to a call, list by list
 --     Says            an answer that is one number, or a refusal
@@ -23,6 +23,7 @@ use Rattle.counts.specs.Counts.{counting}
 use Rattle.schedule.specs.Check.{checked}
 use Rattle.circle.specs.Answers.{nextAnswer, nextLeft, runAnswer, runLeft}
 use Rattle.circle_back.specs.Answers.{previousAnswer, previousLeft, runBackAnswer, runBackLeft}
+use Rattle.reason.specs.Answers.{explained, numbers}
 use Rattle.number.specs.Answers.{numberAnswer}
 use Rattle.tree.specs.Table.{Treed}
 use Rattle.tree_back.specs.Back.{Untreed}
@@ -41,6 +42,7 @@ pub data Call : Type 0 where
   previous-changed : (t s : ℕ) (beats : List ℕ) → Call
   run-back : (t s : ℕ) (beats : List ℕ) (k : ℕ) → Call
   run-back-changed : (t s : ℕ) (beats : List ℕ) (k : ℕ) → Call
+  explain : (t s : ℕ) (beats : List ℕ) → Call
   number : (t s : ℕ) (beats : List ℕ) → Call
   form : (t s n : ℕ) (out : List ℕ) → Call
   form-on-sheet : (t s n : ℕ) (sheet : List ℕ) (column : ℕ) → Call
@@ -60,6 +62,7 @@ lent (previous t s b) = b ∷ []
 lent (previous-changed t s b) = b ∷ []
 lent (run-back t s b k) = b ∷ []
 lent (run-back-changed t s b k) = b ∷ []
+lent (explain t s b) = b ∷ []
 lent (number t s b) = b ∷ []
 lent (form t s n out) = out ∷ []
 lent (form-on-sheet t s n sheet column) = sheet ∷ []
@@ -82,6 +85,7 @@ Gives (previous t s b) v m x = Says (previousAnswer t s b) v m × (x ≡ previou
 Gives (previous-changed t s b) v m x = Says (previousAnswer t s b) v m × (x ≡ b ∷ [])
 Gives (run-back t s b k) v m x = Says (runBackAnswer t s b k) v m × (x ≡ runBackLeft t s b k ∷ [])
 Gives (run-back-changed t s b k) v m x = Says (runBackAnswer t s b k) v m × (x ≡ b ∷ [])
+Gives (explain t s b) v m x = ((v ≡ checked t s b) × (m ≡ numbers (explained t s b))) × (x ≡ b ∷ [])
 Gives (number t s b) v m x = Says (numberAnswer t s b) v m × (x ≡ b ∷ [])
 Gives (form t s n out) v m x = ((v ≡ formVerdict t s n out) × (m ≡ [])) × (x ≡ formLeft t s n out ∷ [])
 Gives (form-on-sheet t s n sheet column) v m x = ((v ≡ sheetVerdict t s n sheet column) × (m ≡ []))
@@ -108,6 +112,7 @@ silenced (previous t s b) m = m
 silenced (previous-changed t s b) m = m
 silenced (run-back t s b k) m = m
 silenced (run-back-changed t s b k) m = m
+silenced (explain t s b) m = m
 silenced (number t s b) m = m
 silenced (form t s n out) m = m
 silenced (form-on-sheet t s n sheet column) m = m
@@ -126,6 +131,7 @@ pub data CountsOf : Call → ℕ → ℕ → Type 0 where
   of-previous-changed : {t s : ℕ} {b : List ℕ} → CountsOf (previous-changed t s b) t s
   of-run-back : {t s : ℕ} {b : List ℕ} {k : ℕ} → CountsOf (run-back t s b k) t s
   of-run-back-changed : {t s : ℕ} {b : List ℕ} {k : ℕ} → CountsOf (run-back-changed t s b k) t s
+  of-explain : {t s : ℕ} {b : List ℕ} → CountsOf (explain t s b) t s
   of-number : {t s : ℕ} {b : List ℕ} → CountsOf (number t s b) t s
   of-form : {t s n : ℕ} {out : List ℕ} → CountsOf (form t s n out) t s
   of-form-on-sheet : {t s n : ℕ} {sheet : List ℕ} {column : ℕ} → CountsOf (form-on-sheet t s n sheet column) t s
@@ -144,6 +150,7 @@ pub data BeatsOf : Call → List ℕ → Type 0 where
   in-previous-changed : {t s : ℕ} {b : List ℕ} → BeatsOf (previous-changed t s b) b
   in-run-back : {t s : ℕ} {b : List ℕ} {k : ℕ} → BeatsOf (run-back t s b k) b
   in-run-back-changed : {t s : ℕ} {b : List ℕ} {k : ℕ} → BeatsOf (run-back-changed t s b k) b
+  in-explain : {t s : ℕ} {b : List ℕ} → BeatsOf (explain t s b) b
   in-number : {t s : ℕ} {b : List ℕ} → BeatsOf (number t s b) b
   in-tree : {n : ℕ} {b l r p : List ℕ} → BeatsOf (tree n b l r p) b
   in-write : {kind t s : ℕ} {b out : List ℕ} → BeatsOf (write kind t s b out) b

@@ -3,3 +3,4 @@ pub mod Calls
 pub mod Demands
 pub mod Backwards
 pub mod Surplus
+pub mod Explaining

@@ -4,9 +4,12 @@
 // [D1g]
 ghost use mathlib.Core.List.{[], _∷_};
 ghost use Rattle.refusal.specs.Answer.{verdict, value};
+ghost use Rattle.reason.specs.Answers.{numbers};
+ghost use Rattle.reason.specs.Answers as told;
 ghost use Rattle.record.specs.Parts as said;
 ghost use Rattle.demands.specs.Calls as call;
 ghost use Rattle.demands.specs.Calls.{Gives};
+use reason::Explained;
 use record::Reading;
 use refusal::Answer;
 use refusal::Verdict;
@@ -75,6 +78,13 @@ fn run_back_changed(t: u64, s: u64, beats: &[u8], k: u64) -> Answer
         ∷ []) (now (beats .exit) ∷ []) ⌝ }
 {
     circle_back::run_back_changed(t, s, beats, k)
+}
+
+fn explain(t: u64, s: u64, beats: &[u8]) -> Explained
+    ensures { λ r. ⌜ Gives (call.explain t s (now (beats .entry))) (told.verdict r) (numbers (told.values r))
+        (now (beats .exit) ∷ []) ⌝ }
+{
+    reason::explain(t, s, beats)
 }
 
 fn number(t: u64, s: u64, beats: &[u8]) -> Answer

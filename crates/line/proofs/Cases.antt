@@ -7,7 +7,7 @@ use native.Mathlib.Omega.{arith}
 use lib.IntN.{negsuc}
 use Rattle.refusal.specs.declared.Refusal.the-variants.{EmptyHand, WrongTakeUps, NoSuchNumber}
 use Rattle.text.specs.Decimal.{digits, decimal}
-use Rattle.line.specs.Line.{Beats, beatText, acceptedLine, refusedLine}
+use Rattle.line.specs.Line.{Beats, beatText, acceptedLine, refusedText, refusedLine}
 
 -- "3 2 2 11010" and a line feed
 line-3-2-2 : acceptedLine 3 2 2 (1 ∷ 1 ∷ 0 ∷ 1 ∷ 0 ∷ [])
@@ -42,6 +42,16 @@ line-refused-off : refusedLine (WrongTakeUps (negsuc 0))
     ≡ 114 ∷ 101 ∷ 102 ∷ 117 ∷ 115 ∷ 101 ∷ 100 ∷ 32 ∷ 54 ∷ 32 ∷ 48 ∷ 32 ∷ 45 ∷ 49 ∷ 10 ∷ []
 unfolding decimal digits
 line-refused-off = refl
+
+-- "refused 7 0 0" and "refused 6 0 -1", without the line feed
+text-refused : refusedText NoSuchNumber ≡ 114 ∷ 101 ∷ 102 ∷ 117 ∷ 115 ∷ 101 ∷ 100 ∷ 32 ∷ 55 ∷ 32 ∷ 48 ∷ 32 ∷ 48 ∷ []
+unfolding decimal digits
+text-refused = refl
+
+text-refused-off : refusedText (WrongTakeUps (negsuc 0))
+    ≡ 114 ∷ 101 ∷ 102 ∷ 117 ∷ 115 ∷ 101 ∷ 100 ∷ 32 ∷ 54 ∷ 32 ∷ 48 ∷ 32 ∷ 45 ∷ 49 ∷ []
+unfolding decimal digits
+text-refused-off = refl
 
 -- beats, and a list with another number in it
 beats-10 : Beats (1 ∷ 0 ∷ [])

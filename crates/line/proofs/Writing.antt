@@ -4,8 +4,8 @@
 --     written-none, written-beats   no beat is to be written; every beat is written
 --     text-fits                     the beats, or -, take one byte each, and at least one
 --     word                          the word refused and a space
---     written-accepted, written-refused              the parts of a line, or of what it says of a refusal, one after the
---                                   other, are the whole
+--     written-accepted, written-refused     the parts of a line, or of what it says of a refusal, one after the other,
+--                                   are the whole
 -- Assumes nothing.
 use mathlib.Core.List.{List, [], _∷_, _++_, map, append-assoc}
 use mathlib.Core.Logic.{_⊎_, inl, inr}

@@ -5,8 +5,9 @@ use mathlib.Core.List.{List, [], _∷_, _++_}
 use mathlib.Core.Path.{_≡_, refl}
 use Prim.Native.Nat.{ℕ, _<_}
 use native.Mathlib.Omega.{arith}
+use lib.IntN.{negsuc}
 use lib.ListN.{replicate}
-use Rattle.refusal.specs.declared.Refusal.the-variants.{NoSuchNumber}
+use Rattle.refusal.specs.declared.Refusal.the-variants.{WrongTakeUps, NoSuchNumber}
 use Rattle.refusal.specs.declared.Verdict.{Verdict}
 use Rattle.text.specs.Decimal.{digits, decimal}
 use Rattle.bounded.specs.Bounded.{every, firstFrom}
@@ -145,8 +146,16 @@ unfolding valueOf tabulate N digits decimal every firstFrom ones zeros isSchedul
     changed differingFrom explanationOf placesText
 explained-empty = refl
 
+-- the lines of the manual's four records, explained
+abbrev explained-lines : List ℕ
+explained-lines =
+    51 ∷ 32 ∷ 51 ∷ 32 ∷ 52 ∷ 32 ∷ 49 ∷ 32 ∷ 50 ∷ 32 ∷ 51 ∷ 32 ∷ 52 ∷ 10 ∷
+    52 ∷ 32 ∷ 50 ∷ 32 ∷ 50 ∷ 32 ∷ 49 ∷ 32 ∷ 50 ∷ 10 ∷
+    114 ∷ 101 ∷ 102 ∷ 117 ∷ 115 ∷ 101 ∷ 100 ∷ 32 ∷ 55 ∷ 32 ∷ 48 ∷ 32 ∷ 48 ∷ 10 ∷
+    49 ∷ 32 ∷ 45 ∷ 32 ∷ 45 ∷ 32 ∷ 45 ∷ 10 ∷ []
+
 -- the whole list of the manual's four records [X10]
-whole-explained : explanations orders ≡ 51 ∷ 32 ∷ 51 ∷ 32 ∷ 52 ∷ 32 ∷ 49 ∷ 32 ∷ 50 ∷ 32 ∷ 51 ∷ 32 ∷ 52 ∷ 10 ∷ 52 ∷ 32 ∷ 50 ∷ 32 ∷ 50 ∷ 32 ∷ 49 ∷ 32 ∷ 50 ∷ 10 ∷ 114 ∷ 101 ∷ 102 ∷ 117 ∷ 115 ∷ 101 ∷ 100 ∷ 32 ∷ 55 ∷ 32 ∷ 48 ∷ 32 ∷ 48 ∷ 10 ∷ 49 ∷ 32 ∷ 45 ∷ 32 ∷ 45 ∷ 32 ∷ 45 ∷ 10 ∷ []
+whole-explained : explanations orders ≡ explained-lines
 unfolding listFrom valueOf tabulate N digits decimal every firstFrom ones zeros isSchedule shift found has01 movesNext
     next steps changed differingFrom explanationOf placesText
 whole-explained = refl
@@ -156,9 +165,17 @@ form-in : formIn (5 ∷ 0 ∷ 2 ∷ 0 ∷ 3 ∷ 2 ∷ 168 ∷ []) ≡ 1 ∷ 0 �
 unfolding valueOf tabulate
 form-in = refl
 
+form-in-10 : formIn (5 ∷ 0 ∷ 2 ∷ 0 ∷ 1 ∷ 1 ∷ 128 ∷ []) ≡ 1 ∷ 0 ∷ []
+unfolding valueOf tabulate
+form-in-10 = refl
+
 ones-in : onesIn (5 ∷ 0 ∷ 2 ∷ 0 ∷ 3 ∷ 2 ∷ 168 ∷ []) ≡ 3
 unfolding valueOf tabulate ones
 ones-in = refl
+
+ones-in-10 : onesIn (5 ∷ 0 ∷ 2 ∷ 0 ∷ 1 ∷ 1 ∷ 128 ∷ []) ≡ 1
+unfolding valueOf tabulate ones
+ones-in-10 = refl
 
 -- the line of 10 in either list
 taken-packing : acceptedText Which.Packing 1 1 0 (1 ∷ 0 ∷ []) ≡ 49 ∷ 32 ∷ 49 ∷ 32 ∷ 48 ∷ 32 ∷ 49 ∷ 48 ∷ 10 ∷ []
@@ -169,9 +186,27 @@ taken-explaining : acceptedText Which.Explaining 1 1 0 (1 ∷ 0 ∷ []) ≡ 49 �
 unfolding N digits decimal ones zeros explanationOf placesText
 taken-explaining = refl
 
--- a refusal that is no 6 has one line in both lists
-refused-both : refusedIn Which.Explaining [] NoSuchNumber ≡ refusedIn Which.Packing [] NoSuchNumber
-refused-both = refl
+-- a refusal that is no 6 has one line in both lists; after a 6 an explanation has the ones of the record, of 1010 for
+-- (3,1)
+refused-packing : refusedIn Which.Packing [] NoSuchNumber
+    ≡ 114 ∷ 101 ∷ 102 ∷ 117 ∷ 115 ∷ 101 ∷ 100 ∷ 32 ∷ 55 ∷ 32 ∷ 48 ∷ 32 ∷ 48 ∷ 10 ∷ []
+unfolding digits decimal
+refused-packing = refl
+
+refused-explaining : refusedIn Which.Explaining [] NoSuchNumber
+    ≡ 114 ∷ 101 ∷ 102 ∷ 117 ∷ 115 ∷ 101 ∷ 100 ∷ 32 ∷ 55 ∷ 32 ∷ 48 ∷ 32 ∷ 48 ∷ 10 ∷ []
+unfolding digits decimal
+refused-explaining = refl
+
+refused-counted : refusedIn Which.Explaining (5 ∷ 0 ∷ 2 ∷ 0 ∷ 3 ∷ 1 ∷ 160 ∷ []) (WrongTakeUps (negsuc 0))
+    ≡ 114 ∷ 101 ∷ 102 ∷ 117 ∷ 115 ∷ 101 ∷ 100 ∷ 32 ∷ 54 ∷ 32 ∷ 48 ∷ 32 ∷ 45 ∷ 49 ∷ 32 ∷ 51 ∷ 32 ∷ 50 ∷ 10 ∷ []
+unfolding valueOf tabulate digits decimal ones
+refused-counted = refl
+
+-- no record, no line
+none-explained : explanations [] ≡ []
+unfolding listFrom
+none-explained = refl
 
 -- buffers that every record and every schedule fit into; one byte less is too little
 large-enough : Buffers (replicate 1022 0) (replicate mostBeats 0)

@@ -135,7 +135,8 @@ module _ (which : Which) (src out : List ℕ) where
 
   pub list-refused : (why : Refusal) → verdictOn src ≡ Verdict.Refused why
       → {consumed number bytes : ℕ} {after : List ℕ}
-      → consumed ≡ eaten why (long src) → number ≡ refusalNumber why → Written 0 (refusedIn which src why) out after bytes
+      → consumed ≡ eaten why (long src) → number ≡ refusalNumber why
+      → Written 0 (refusedIn which src why) out after bytes
       → Prints (lineOf which) src out (record { consumed = consumed; bytes = bytes; last = eqb number 9 }) after
   list-refused why e {bytes = bytes} {after} ec en w =
       as-printed (ec ∙ ap (passing src) (sym e)) (ap (λ (j : ℕ). eqb j 9) en ∙ ap ending (sym e))

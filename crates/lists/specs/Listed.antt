@@ -3,7 +3,8 @@
 -- crate `stream`.
 --     formIn           the form that an accepted record means
 --     onesIn           how many ones there are among the beats that a record packs
---     acceptedText     the line of an accepted record, by the list: t, s, number and beats; or the explanation [E4] [X9]
+--     acceptedText     the line of an accepted record, by the list: t, s, number and beats; or the explanation [E4]
+--                      [X9]
 --     refusedIn        the line of a refused record, by the list: "refused", the refusal's number, the place and the
 --                      surplus; where beats are explained, for 6 then also the ones asked for and found [E4] [X11]
 --     text             the line after a verdict
@@ -71,6 +72,7 @@ pub record Buffers (input room : List ℕ) : Type 0 where
   pub any-record : 2 + longest ≤ length input
   pub any-beats : length room ≡ mostBeats
 
-pub record Turned (which : Which) (input lent : List ℕ) (stream : Stream) (after : List ℕ) (next : Stream) : Type 0 where
+pub record Turned (which : Which) (input lent : List ℕ) (stream : Stream) (after : List ℕ) (next : Stream)
+    : Type 0 where
   pub inside : Inside after next
   pub turns : Turns (lineOf which) widest (length lent) (window input stream) stream (window after next) next

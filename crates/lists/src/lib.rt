@@ -47,8 +47,8 @@ fn accepted(which: Which, t: u64, s: u64, number: u64, beats: &[u8], out: &mut [
 // Writes the line of a refused record where beats are explained: for 6 with the ones asked for and found. [X11]
 fn miscounted(src: &[u8], why: Refusal, out: &mut [u8]) -> usize
     requires { ⌜ (verdictOn (now src) ≡ Verdict.Refused why) × (128 ≤ length (now out)) ⌝ }
-    ensures { λ r. ⌜ Written 0 (refusedIn of.Which.Explaining (now (src .entry)) why) (now (out .entry)) (now (out .exit))
-        r ⌝ }
+    ensures { λ r. ⌜ Written 0 (refusedIn of.Which.Explaining (now (src .entry)) why) (now (out .entry))
+        (now (out .exit)) r ⌝ }
 {
     if why.number() == 6 {
         let asked = reader::asked(src);

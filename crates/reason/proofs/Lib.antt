@@ -3,3 +3,4 @@ pub mod Reasons
 pub mod Changing
 pub mod Rules
 pub mod Theorems
+pub mod Cases

@@ -71,7 +71,8 @@ given-one (last-beat more none n) e = absurd (omega arith)
 given-one (next-beat more p may) e = absurd (omega arith)
 given-one (found-one more p stays) e = absurd (omega arith)
 
-given-two : {b : List ℕ} {k : ℕ} {at moved : List ℕ} → Holds b k at moved → k ≡ 2 → (OneForm b → ⊥) × Nowhere (Rises b) (length b)
+given-two : {b : List ℕ} {k : ℕ} {at moved : List ℕ} → Holds b k at moved → k ≡ 2
+    → (OneForm b → ⊥) × Nowhere (Rises b) (length b)
 given-two (only-form one) e = absurd (omega arith)
 given-two (last-beat more none n) e = (more, none)
 given-two (next-beat more p may) e = absurd (omega arith)

@@ -2,8 +2,11 @@
 -- Definitions only.
 --     verdict, values     of an answer: whether the call was accepted, and the explanation; after a refusal nothing is
 --                         explained
+--     nothing             what is said after a refusal: the case 0, and no place
+--     unless-refused      an explanation, by the verdict on what was lent
 --     explained t s b     the explanation of a lent schedule; nothing where the check refuses it [X4]
-use mathlib.Core.List.{List, []}
+--     numbers e           the numbers of an explanation: the case, and then the places that it has
+use mathlib.Core.List.{List, [], _∷_, _++_}
 use Prim.Native.Nat.{ℕ}
 use Rattle.refusal.specs.declared.Verdict.{Verdict}
 use Rattle.schedule.specs.Check.{checked}
@@ -27,3 +30,6 @@ unless-refused (Verdict.Refused why) e = nothing
 
 abbrev pub explained : ℕ → ℕ → List ℕ → Explanation
 explained t s b = unless-refused (checked t s b) (explanationOf b)
+
+abbrev pub numbers : Explanation → List ℕ
+numbers e = e .case ∷ (e .found ++ e .moved ++ e .changed)

@@ -132,7 +132,8 @@ impl Explained {
     }
 }
 
-// Why a beat moves of what is known to be a schedule: y is the leftmost 0, x the 1 of the leftmost 0 followed by 1. [X3]
+// Why a beat moves of what is known to be a schedule: y is the leftmost 0, x the 1 of the leftmost 0 followed by 1.
+// [X3]
 pub fn reason_of(beats: &[u8]) -> Reason
     requires { ⌜ Form (now beats) ⌝ }
     ensures { λ r. ⌜ valuesOf r ≡ explanationOf (now (beats .entry)) ⌝ }

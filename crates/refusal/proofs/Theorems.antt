@@ -169,7 +169,8 @@ past-sixless l m free six = by (judge l) refl
     by : (v : Verdict) → judge l ≡ v → judge l ≡ Verdict.Accepted
     by Verdict.Accepted e = e
     by (Verdict.Refused why) e =
-        absurd (six-given (λ z. ⊥) l (sixless-all (λ z. ⊥) l free) (ap refusal (e ∙ sym (judge-refused l m why e)) ∙ six))
+        let none = sixless-all (λ z. ⊥) l free in
+        absurd (six-given (λ z. ⊥) l none (ap refusal (e ∙ sym (judge-refused l m why e)) ∙ six))
 
 pub surplus-else : (v : Verdict) → (refusal v ≡ 6 → ⊥) → surplus v ≡ pos 0
 surplus-else Verdict.Accepted other = refl

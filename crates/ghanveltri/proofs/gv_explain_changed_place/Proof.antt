@@ -13,7 +13,10 @@ changed-requires : tie.Need-changed-requires
 changed-requires c κs = search needs
 
 returns : tie.Need-returns
-returns c = c .changed .ensures ∙ ap (λ (e : Explanation). getD (e .changed) (c .before .before .before .args .which) noPlace) (c .before .explain .ensures .1)
+returns c =
+    c .changed .ensures
+    ∙ ap (λ (e : Explanation). getD (e .changed) (c .before .before .before .args .which) noPlace)
+    (c .before .explain .ensures .1)
 
 pub gv-explain-changed-place-spec : {M : Type 1} → statement M
 gv-explain-changed-place-spec = tie.close (tie.spec explain-requires changed-requires returns)

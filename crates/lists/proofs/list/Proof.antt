@@ -110,8 +110,8 @@ returns : tie.Need-returns
 returns c =
     let writing = c .before .before in
     let here = writing .before .before .before in
-    list-accepted (start here .args .which) (src here) (start here .args .out .now) (room here) (start here .pre .1) (order here) (says here) _
-    (shown here) (writing .accepted .ensures)
+    list-accepted (start here .args .which) (src here) (start here .args .out .now) (room here) (start here .pre .1)
+    (order here) (says here) _ (shown here) (writing .accepted .ensures)
 
 same-length-3 : tie.Need-same-length-3
 same-length-3 c = search needs

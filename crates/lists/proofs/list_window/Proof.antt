@@ -128,8 +128,8 @@ returns : tie.Need-returns Inv-loop μ-loop
 returns c =
     let turning = c .before .before .before in
     let start = turning .before .before .before .before in
-    going-rests (lineOf (start .args .which)) widest (start .args .ended) (start .args .src .now) (start .args .text .now)
-    (turning .loop .inv .1) (sym (c .before .at-front .ensures))
+    going-rests (lineOf (start .args .which)) widest (start .args .ended) (start .args .src .now)
+    (start .args .text .now) (turning .loop .inv .1) (sym (c .before .at-front .ensures))
     (λ e. absurd (no-record (c .before .at-front .result) (c .match .keys2) e))
 
 sub-if1 : tie.Need-sub-if1 Inv-loop μ-loop
@@ -146,8 +146,8 @@ returns-2 c =
     let looked = c .before .before .before in
     let turning = looked .before .before in
     let start = turning .before .before .before .before in
-    going-rests (lineOf (start .args .which)) widest (start .args .ended) (start .args .src .now) (start .args .text .now)
-    (turning .loop .inv .1)
+    going-rests (lineOf (start .args .which)) widest (start .args .ended) (start .args .src .now)
+    (start .args .text .now) (turning .loop .inv .1)
     (sym (looked .at-front .ensures) ∙ c .before .enum-told .given .1)
     (λ e. omega (arith, c .if1 .taken, turning .loop .inv .1 .long))
 

@@ -29,11 +29,13 @@ is-six : (c : tie.Then1) → refusalNumber (start (c .before) .args .why) ≡ 6
 is-six c = sym (c .before .number .ensures) ∙ c .if1 .taken
 
 there : (c : tie.Then1) → let args = start (c .before) .args in
-    (4 ≤ length (args .src .now)) × (refusalSurplus (args .why) +ℤ pos (ups (args .src .now)) ≡ pos (onesIn (args .src .now)))
+    (4 ≤ length (args .src .now))
+    × (refusalSurplus (args .why) +ℤ pos (ups (args .src .now)) ≡ pos (onesIn (args .src .now)))
 there c = six-there (start (c .before) .args .src .now) (start (c .before) .pre .0) (is-six c)
 
 -- the surplus as it is read from its bits
-read : (c : tie.After-surplus) → toZ w32 (ofZ w32 (c .surplus .result)) ≡ refusalSurplus (start (c .before .before .before) .args .why)
+read : (c : tie.After-surplus)
+    → toZ w32 (ofZ w32 (c .surplus .result)) ≡ refusalSurplus (start (c .before .before .before) .args .why)
 read c = toZ-ofZ w32 (c .surplus .result) (record { sfits = c .surplus .ok }) ∙ c .surplus .ensures
 
 -- the surplus and t are the ones of the beats
@@ -72,7 +74,8 @@ returns c =
     let ones : found .ones-found .result ≡ onesIn (args .src .now) =
     ap natAbs (sym (found .ones-found .ensures) ∙ sum (found .before)) in
     subst (λ (t : Bool).
-    Written 0 (cond t (countedLine (args .why) (ups (args .src .now)) (onesIn (args .src .now))) (refusedLine (args .why)))
+    Written 0
+    (cond t (countedLine (args .why) (ups (args .src .now)) (onesIn (args .src .now))) (refusedLine (args .why)))
     (args .out .now) (done .counted .last .1 .1 .1 .0) (done .counted .result))
     (sym (eq-eqb (refusalNumber (args .why)) 6 (is-six six)))
     (subst₂ (λ (a f : ℕ).
@@ -91,7 +94,8 @@ returns-2 c =
     let other = done .before .before in
     let args = start (other .before) .args in
     subst (λ (t : Bool).
-    Written 0 (cond t (countedLine (args .why) (ups (args .src .now)) (onesIn (args .src .now))) (refusedLine (args .why)))
+    Written 0
+    (cond t (countedLine (args .why) (ups (args .src .now)) (onesIn (args .src .now))) (refusedLine (args .why)))
     (args .out .now) (done .refused .last .1 .0) (done .refused .result))
     (sym (ne-eqb (refusalNumber (args .why)) 6 (λ e. other .if1 .left (other .before .number .ensures ∙ e))))
     (done .refused .ensures)

@@ -13,7 +13,8 @@ use Rattle.reason_line.proofs.explained.Tie as tie
 
 -- the line of a reason is that of the case in which it is known
 said : {reason known : Reason} {before after : List ℕ} {r : ℕ} → reason ≡ known
-    → Written 0 (explainedLine (valuesOf known)) before after r → Written 0 (explainedLine (valuesOf reason)) before after r
+    → Written 0 (explainedLine (valuesOf known)) before after r
+    → Written 0 (explainedLine (valuesOf reason)) before after r
 said {before = before} {after} {r} e w =
     subst (λ (q : Reason). Written 0 (explainedLine (valuesOf q)) before after r) (sym e) w
 
@@ -85,7 +86,8 @@ returns-2 c =
     let first = second .before .before .before .before in
     let arm = first .before .before .before .before in
     said (arm .reason .given .1)
-    (last-line _ (arm .reason .given .0 .1 .0) (record { text = first .copy2 .ensures .1; end = first .copy2 .ensures .0 }) (second .field .ensures .0)
+    (last-line _ (arm .reason .given .0 .1 .0)
+    (record { text = first .copy2 .ensures .1; end = first .copy2 .ensures .0 }) (second .field .ensures .0)
     (last .changed-text .ensures))
 
 same-length-3 : tie.Need-same-length-3
@@ -97,8 +99,8 @@ returns-3 c =
     let first = last .before .before .before .before in
     let arm = first .before .before .before .before in
     said (arm .reason2 .given .1)
-    (next-line _ _ (arm .reason2 .given .0 .1 .1 .0) (record { text = first .copy3 .ensures .1; end = first .copy3 .ensures .0 })
-    (last .found-text .ensures))
+    (next-line _ _ (arm .reason2 .given .0 .1 .1 .0)
+    (record { text = first .copy3 .ensures .1; end = first .copy3 .ensures .0 }) (last .found-text .ensures))
 
 same-length-4 : tie.Need-same-length-4
 same-length-4 c = search needs
@@ -109,8 +111,8 @@ returns-4 c =
     let first = last .before .before .before .before in
     let arm = first .before .before .before .before in
     said (arm .reason3 .given .1)
-    (found-line _ (arm .reason3 .given .0 .1 .0) (record { text = first .copy4 .ensures .1; end = first .copy4 .ensures .0 })
-    (last .found-text2 .ensures))
+    (found-line _ (arm .reason3 .given .0 .1 .0)
+    (record { text = first .copy4 .ensures .1; end = first .copy4 .ensures .0 }) (last .found-text2 .ensures))
 
 pub explained-spec : {M : Type 1} → statement M
 explained-spec =
