@@ -1,4 +1,4 @@
-/* The explanations as a command: explain [FILE]. */
+/* The explanations as a command: explain [FILE]. [X10] [X15] */
 #include "command.h"
 #include "ghanveltri.h"
 

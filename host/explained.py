@@ -82,7 +82,7 @@ def faults(beats, line, right):
 
 
 def some_forms():
-    """Every form of the small counts, and some of each other pair."""
+    """Every form of the small counts, and some of each other pair. [X14]"""
     for t, s in oracle.pairs():
         count = oracle.forms(t, s)
         some = range(count) if t <= SMALL else {0, 1 % count, count // 3, count // 2, count - 1}

@@ -1,7 +1,7 @@
 -- What explaining a lent schedule answers, the manual, "Why a beat moves" and "Refusal numbers" (Order: schedules).
 -- Definitions only.
 --     verdict, values     of an answer: whether the call was accepted, and the explanation; after a refusal nothing is
---                         explained
+--                         explained [F5]
 --     nothing             what is said after a refusal: the case 0, and no place
 --     unless-refused      an explanation, by the verdict on what was lent
 --     explained t s b     the explanation of a lent schedule; nothing where the check refuses it [X4]

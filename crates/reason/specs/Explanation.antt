@@ -8,7 +8,7 @@
 --                       followed by 1, and the last beat moves; else 3 where the rule moves the beat after the found 1,
 --                       and 4 where it moves the found 1 [X3]
 --     noPlace           what is answered where a place is asked for and there is none
---     placesOf, valuesOf     what the cases of the enums say
+--     placesOf, valuesOf     what the cases of the enums say [F5]
 use mathlib.Core.Bool.{cond}
 use mathlib.Core.List.{List, [], _∷_}
 use Prim.Native.Nat.{ℕ, suc, pred}

@@ -163,7 +163,7 @@ pub fn reason_of(beats: &[u8]) -> Reason
     Reason::FoundMoves(x as u64, swapped)
 }
 
-// Explains what the step would do to the lent schedule. Refuses 1 to 6 as the check does. [X4]
+// Explains what the step would do to the lent schedule. Refuses 1 to 6 as the check does. [X4] [D1a]
 pub fn explain(t: u64, s: u64, beats: &[u8]) -> Explained
     ensures { λ r. ⌜ answer.verdict r ≡ checked t s (now (beats .entry)) ⌝ }
     ensures { λ r. ⌜ answer.values r ≡ explained t s (now (beats .entry)) ⌝ }

@@ -1,4 +1,4 @@
--- `packing::list_all` meets its contract: the table that it makes has the counts, and its buffers are large
+-- `lists::list_all` meets its contract: the table that it makes has the counts, and its buffers are large
 -- enough. Assumes nothing.
 use mathlib.Core.Path.{sym, subst}
 use Rattle.lookup.specs.Lent.{Counts}
