@@ -12,6 +12,8 @@ import itertools
 import re
 import sys
 
+import explained
+import explaining
 import oracle
 import packing
 from oracle import ACCEPTED, Why
@@ -22,11 +24,18 @@ from verifying import ROOT, Wrong, contents, ended, sure
 LARGEST = oracle.LARGEST
 PLACES = oracle.BEATS + 2  # that the programs lend to a reader, where a line does not say how many
 ROOM = 16  # and to a writer
+NO_PLACE = 2**64 - 1  # what an explanation answers where there is no place
 
 
 def pairs(largest, beats=oracle.BEATS):
     """The allowed counts t, s with t up to a number and up to so many beats, as the programs print them."""
     return [f"{t} {s}" for t in range(largest + 1) for s in range(t + 1) if t + s <= beats]
+
+
+def spread(s):
+    """The largest t, an s, and the first number, three between and the last, as the programs print them."""
+    n = oracle.forms(LARGEST, s)
+    return [f"{LARGEST} {s} {number}" for number in (0, n // 3, n // 2, n // 3 * 2, n - 1)]
 
 
 # The lines of each program by how they begin, of the kinds that go through all of something.
@@ -38,7 +47,14 @@ THROUGH = {
         "lists": [f"of {t}" for t in TABLE_1],
         "off": pairs(12, beats=12),
     },
-    "cases_walk": {"order": pairs(4), "round": pairs(8), "order_back": pairs(4), "round_back": pairs(8)},
+    "cases_walk": {
+        "order": pairs(4),
+        "round": pairs(8),
+        "order_back": pairs(4),
+        "round_back": pairs(8),
+        "explain_number": [f"{LARGEST} 0 0", *spread(LARGEST - 1), *spread(LARGEST)],
+        "explain_round": pairs(8),
+    },
     "cases_number": {"both": pairs(8), "ends": pairs(LARGEST)},
     "cases_tree": {"trees": [*range(8)], "combinations": [1, 2]},
     "cases_record": {"records": pairs(7), "scattered": [*range(8, LARGEST + 1)]},
@@ -54,6 +70,7 @@ STATED = {
         "previous_changed": 17,
         "run_back": 26,
         "run_back_changed": 26,
+        "explain": 33,
     },
     "cases_number": {"number": 34, "form": 25, "sheet": 26},
     "cases_tree": {"tree": 69, "back": 98, "damage": 12},
@@ -68,7 +85,18 @@ EXAMPLES = {
         "check 2 2 1001",
         "check 2 1 11",
     ),
-    "cases_walk": ("run 65535 3 2 11100", "run 65536 2 1 110"),
+    "cases_walk": (
+        "run 65535 3 2 11100",
+        "run 65536 2 1 110",
+        "explain 3 2 11010",
+        "explain 3 2 11100",
+        "explain 3 2 10110",
+        "explain 3 2 10101",
+        "explain 3 2 11001",
+        "explain 0 0 -",
+        "explain 1 1 10",
+        "explain 3 0 111",
+    ),
     "cases_number": ("form 3 2 4 5", "form 3 2 5 5"),
     "cases_tree": ("tree 6 111001001100 6 6 6", "back 1 0 0 1 2"),
     "cases_record": (),
@@ -224,6 +252,51 @@ def step_back(t, s, text):
 
 def step_back_changed(t, s, text):
     return run_back_changed("1", t, s, text)
+
+
+def form_after(t, s, beats):
+    """The form of the next number, by the groups and by no step."""
+    return oracle.form_of(t, s, (oracle.number_of(t, s, beats) + 1) % oracle.forms(t, s))
+
+
+def told(t, s, beats):
+    """What is said of a form: what was worked out by hand, where it was, and by its meaning the form of the next number.
+    """
+    line = explaining.accepted(t, s, beats)
+    by_hand = explained.EXAMPLES.get("".join(map(str, beats)), line)
+    sure(line == by_hand, f"{line!r} of {text_of(beats)}: {by_hand!r} by hand")
+    faults = [*explained.faults(beats, line, form_after(t, s, beats))]
+    sure(not faults, f"{line!r} of {text_of(beats)}: {'; '.join(faults)}")
+    return line
+
+
+def explain(t, s, text):
+    t, s, beats = int(t), int(s), beats_of(text)
+    why = oracle.check(t, s, beats)
+    return f"{said_of(why)} {'0 - - -' if why else told(t, s, beats)}"
+
+
+def explain_number(t, s, n):
+    """The form of a number, what is said of it, and the form that this leads to."""
+    t, s = int(t), int(s)
+    beats = oracle.form_of(t, s, int(n))
+    return f"{text_of(beats)} accepted {told(t, s, beats)} {text_of(form_after(t, s, beats))}"
+
+
+def places_folded(t, s, beats):
+    """The numbers of an explanation that the programs fold: at the last of the five indices is no changed place."""
+    case, found, moved, places = oracle.explanation(t, s, beats)
+    return [case, *(found or [NO_PLACE]), *(moved or [NO_PLACE]), *(places + [NO_PLACE] * 5)[:5]]
+
+
+def explain_round(t, s):
+    """Every form, in the order of the numbers: how many explanations lead to the next form, and the digest of each and
+    of the form that it leads to."""
+    t, s = int(t), int(s)
+    forms = [oracle.form_of(t, s, n) for n in range(oracle.forms(t, s))]
+    right = [told(t, s, beats) for beats in forms]
+    calls = [(places_folded(t, s, beats), form_after(t, s, beats)) for beats in forms]
+    return f"{len(right)} {digest(itertools.chain(*calls))}"
 
 
 def both(t, s):
@@ -417,6 +490,9 @@ KINDS = [
     ("run_back_changed", re.compile(r"run_back_changed (\d+) (\d+) (\d+) (\S+): (.*)"), run_back_changed),
     ("previous", re.compile(r"previous (\d+) (\d+) (\S+): (.*)"), step_back),
     ("previous_changed", re.compile(r"previous_changed (\d+) (\d+) (\S+): (.*)"), step_back_changed),
+    ("explain", re.compile(r"explain (\d+) (\d+) (\S+): (.*)"), explain),
+    ("explain_number", re.compile(r"explain_number (\d+) (\d+) (\d+): (.*)"), explain_number),
+    ("explain_round", re.compile(r"explain_round (\d+) (\d+): (.*)"), explain_round),
     ("counts", re.compile(r"counts of (\d+): (.*)"), counts_of),
     ("lists", re.compile(r"lists of (\d+): (.*)"), lists_of),
     ("off", re.compile(r"off (\d+) (\d+): (.*)"), off),

@@ -4,7 +4,8 @@ use refusal::Answer;
 use triangle::BEATS;
 use triangle::LARGEST;
 
-fn print_input(t: u64, s: u64, beats: &[u8]) {
+// The input of a line.
+pub fn print_input(t: u64, s: u64, beats: &[u8]) {
     show::number(t);
     show::text(b" ");
     show::number(s);
