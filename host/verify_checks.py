@@ -316,6 +316,11 @@ BREAKS = {
         Break("a stored output gone", WALK, gone, (WALK,)),
         *lines_wrong(GROUND, "off"),
         *lines_wrong(WALK, "order_back", "round_back", "previous", "previous_changed", "run_back", "run_back_changed"),
+        *lines_wrong(WALK, "explain", "explain_number", "explain_round"),
+        Break("an example gone", WALK, drop("explain 3 2 11010:"), ("the manual's 'explain 3 2 11010' is missing",)),
+        Break("found and moved exchanged", WALK, swap("accepted 3 3 4 1 2 3 4", "accepted 3 4 3 1 2 3 4"), ("explain 3 2 11010",), OPTIMIZED, ("explain",)),
+        Break("no place folded as 0", VERIFY_CASES, swap("NO_PLACE = 2**64 - 1", "NO_PLACE = 0"), ("explain_round 0 0", "should say"), {}, ("explain_round",)),
+        Break("the rightmost 1 worked out", ORACLE, swap("rises[0]", "rises[-1]"), ("finds another 1 than that at 2",), OPTIMIZED, ("explain_round",)),
         *kinds_gone(),
     ],
     "table_as_generated": [
