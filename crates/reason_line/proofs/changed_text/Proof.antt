@@ -39,7 +39,23 @@ decimal-requires-2 : tie.Need-decimal-requires-2
 decimal-requires-2 c κs = search needs
 
 put-requires-2 : tie.Need-put-requires-2
-put-requires-2 c κs = search needs
+put-requires-2 c κs =
+    let fourth = c .before .before .before in
+    let third = fourth .before .before .before .before in
+    let second = third .before .before .before .before in
+    let first = second .before .before .before .before in
+    omega (
+      arith,
+      first .before .before .before .before .before .before .pre,
+      first .field2 .ensures .1,
+      first .field2 .kept .1 .0,
+      second .field3 .ensures .1,
+      second .field3 .kept .1 .0,
+      third .field4 .ensures .1,
+      third .field4 .kept .1 .0,
+      fourth .decimal2 .ensures .1,
+      fourth .decimal2 .kept .1 .0,
+    )
 
 same-length : tie.Need-same-length
 same-length c = search needs

@@ -1,4 +1,5 @@
 -- `reason_line::counted` meets its contract: each part is written after the one before. Assumes nothing.
+use native.Mathlib.Omega.{arith}
 use Rattle.reason_line.proofs.Writing.{written-counted}
 use borrow.Author.Needs.{needs}
 use Rattle.reason_line.proofs.counted.Statement.{statement}
@@ -17,7 +18,23 @@ decimal-requires : tie.Need-decimal-requires
 decimal-requires c κs = search needs
 
 put-requires-2 : tie.Need-put-requires-2
-put-requires-2 c κs = search needs
+put-requires-2 c κs =
+    let fourth = c .before .before .before in
+    let third = fourth .before .before .before .before in
+    let second = third .before .before .before .before in
+    let first = second .before .before .before .before in
+    omega (
+      arith,
+      first .before .before .before .pre,
+      first .refused-text .ensures .1,
+      first .refused-text .kept .1 .0,
+      second .put .ensures .end,
+      second .put .kept .1 .0,
+      third .field .ensures .1,
+      third .field .kept .1 .0,
+      fourth .decimal .ensures .1,
+      fourth .decimal .kept .1 .0,
+    )
 
 same-length : tie.Need-same-length
 same-length c = search needs
