@@ -7,7 +7,7 @@
 use mathlib.Core.Bool.{true}
 use mathlib.Core.List.{List, [], _∷_}
 use mathlib.Core.Path.{_≡_, refl, _∙_, ap, subst, sym}
-use Prim.Native.Nat.{ℕ, _+_}
+use Prim.Native.Nat.{ℕ}
 use native.Mathlib.Omega.{arith}
 use lib.Dec.{ltb}
 use lib.IntN.{ℤ, pos, negsuc}
@@ -23,27 +23,12 @@ use Rattle.counts.specs.Counts.{countRows}
 use Rattle.schedule.specs.Check.{checkRows, playRows}
 use Rattle.schedule.specs.Meaning.{Off}
 use Rattle.schedule.proofs.Cases.{checked-1010}
-use Rattle.schedule.proofs.Surplus.{hand-sixes, play-sixes, check-sixes}
+use Rattle.schedule.proofs.Surplus.{play-sixes, check-sixes}
 use Rattle.circle.specs.Answers.{mostSteps, runRows}
 use Rattle.form.specs.Answers.{formRows, sheetRows}
 use Rattle.tree.specs.Table.{Treed, filled, kept, treeRows, lentRows}
 use Rattle.tree_back.specs.Back.{Untreed, found, none, unfit}
-use Rattle.record.specs.declared.layout.Layout.{Layout}
-use Rattle.record.specs.Bytes.{unpacked}
-use Rattle.record.specs.Layout.{countsAt}
-use Rattle.record.specs.Record.{
-  layoutIn,
-  upsAt,
-  downsAt,
-  bodyAt,
-  headRows,
-  kindRows,
-  readRows,
-  packedRows,
-  roomRow,
-  recordOf,
-  writeRows,
-}
+use Rattle.record.specs.Record.{readRows, roomRow, recordOf, writeRows}
 use Rattle.reader.proofs.Sixes.{read-sixes}
 use Rattle.reader.proofs.Verdicts.{told-verdict}
 use Rattle.demands.specs.Calls.{

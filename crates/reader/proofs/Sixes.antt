@@ -3,14 +3,13 @@
 --     six-facts                 a record that is refused so is whole, and L reaches past its counts
 --     six-off                   both of a verdict
 -- Assumes nothing.
-use mathlib.Core.Bool.{false, true≢false}
+use mathlib.Core.Bool.{false}
 use mathlib.Core.List.{List, [], _∷_, _++_, List·Memᴰ·head}
 use mathlib.Core.Path.{_≡_, refl, _∙_, ap, sym}
 use Prim.Native.Nat.{ℕ, _+_, _≤_}
 use native.Mathlib.Omega.{arith}
 use borrow.Author.Tests.{ltb-false}
 use lib.IntN.{ℤ}
-use Rattle.refusal.specs.declared.Refusal.{Refusal}
 use Rattle.refusal.specs.declared.Refusal.the-variants.{WrongSize}
 use Rattle.refusal.specs.declared.Verdict.{Verdict}
 use Rattle.refusal.specs.Answer.{refusal, surplus}

@@ -2,13 +2,11 @@
 --     differing-self                a list differs from itself nowhere
 --     differing-swap, differing-turn, differing-dip     what a step changes, by the shape
 -- Assumes nothing.
-use mathlib.Core.Bool.{cond}
 use mathlib.Core.List.{List, [], _∷_}
 use mathlib.Core.Path.{_≡_, refl, _∙_, ap, sym}
 use Prim.Native.Nat.{ℕ, zero, suc, _+_}
 use native.Mathlib.Omega.{arith}
 use borrow.Author.Tests.{eq-eqb}
-use lib.Dec.{eqb}
 use Rattle.circle.proofs.Shape.{ups, downs, ups-snoc, downs-snoc}
 use Rattle.reason.specs.Explanation.{differingFrom, differing}
 

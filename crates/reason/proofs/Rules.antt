@@ -6,24 +6,24 @@
 --     Tests, tests              the four ways that the tests go
 --     last-next, next-next, found-next     the next form by them
 -- Assumes nothing.
-use mathlib.Core.Bool.{Bool, true, false, true≢false, cond, and-eq-true-iff}
-use mathlib.Core.List.{List, []}
+use mathlib.Core.Bool.{Bool, true, false, true≢false, and-eq-true-iff}
+use mathlib.Core.List.{List}
 use mathlib.Core.Logic.{_↔_}
-use mathlib.Core.Path.{_≡_, refl, _∙_, ap, sym, subst}
-use Prim.Native.Nat.{ℕ, zero, suc, pred, _≤_, _<_}
+use mathlib.Core.Path.{_≡_, refl, _∙_, ap, sym}
+use Prim.Native.Nat.{ℕ, zero, suc, _<_}
 use native.Mathlib.Decide.{ℕ-discrete, decLt}
 use native.Mathlib.Omega.{arith}
 use borrow.Author.Tests.{le-leb, leb-true, lt-leb, lt-ltb, eq-eqb, eqb-true}
 use lib.Dec.{eqb, leb}
 use lib.ListN.{length, getD, List·getD-eq-default}
 use Rattle.bounded.specs.Bounded.{first}
-use Rattle.bounded.proofs.First.{first-before, first-none}
+use Rattle.bounded.proofs.First.{first-before}
 use Rattle.triangle.specs.Count.{N}
 use Rattle.triangle.proofs.Count.{N-zero, N-pos}
 use Rattle.schedule.specs.Meaning.{First, Nowhere}
-use Rattle.schedule.specs.Schedule.{ones, zeros, Schedule, isSchedule}
+use Rattle.schedule.specs.Schedule.{ones, zeros, isSchedule}
 use Rattle.schedule.proofs.Hand.{schedule-le}
-use Rattle.schedule.proofs.Reflect.{computed-first, first-computed, computed-nowhere, nowhere-computed}
+use Rattle.schedule.proofs.Reflect.{computed-first, first-computed, nowhere-computed}
 use Rattle.schedule.proofs.Theorems.{isSchedule-true, true-isSchedule}
 use Rattle.circle.specs.Plan.{Form}
 use Rattle.circle.specs.Step.{shift, is01, found, has01, movesNext, next}

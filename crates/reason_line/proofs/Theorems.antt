@@ -4,9 +4,9 @@
 --     line-moving, line-changing     whoever does to a schedule what its line says gets the next form [X7]
 --     line-count       and the changed places are as many as the step answers [X8]
 -- Assumes nothing.
-use mathlib.Core.Bool.{Bool, true, false, cond}
+use mathlib.Core.Bool.{false}
 use mathlib.Core.List.{List, [], _∷_, _++_, map, append-assoc, append-nil}
-use mathlib.Core.Logic.{_≢_, ⊎-elim}
+use mathlib.Core.Logic.{_≢_}
 use mathlib.Core.Path.{_≡_, refl, _∙_, ap, ap₂, sym, subst}
 use Prim.Native.Nat.{ℕ, zero, suc, _≤_, _<_}
 use native.Mathlib.Omega.{arith}
@@ -22,7 +22,7 @@ use Rattle.reason.proofs.Rules.{Tests, only, last, after, itself, tests}
 use Rattle.reason.proofs.Reasons.{one-said, last-said, next-said, found-said}
 use Rattle.reason.proofs.Theorems.{explains, moving-next, changing-next, changed-count}
 use Rattle.text.specs.Decimal.{decimal}
-use Rattle.text.specs.Spells.{digitsValue, Spells}
+use Rattle.text.specs.Spells.{digitsValue}
 use Rattle.text.proofs.Theorems.{decimal-spells}
 use Rattle.reason_line.specs.Line.{placesText, explainedLine}
 use Rattle.reason_line.specs.Back.{wordsFrom, wordsIn, placesIn, readBack}

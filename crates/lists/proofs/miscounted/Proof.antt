@@ -1,6 +1,5 @@
 -- `miscounted` meets its contract: a 6 has the ones asked for and found after it. Assumes nothing.
 use mathlib.Core.Bool.{Bool, cond}
-use mathlib.Core.List.{List}
 use mathlib.Core.Path.{_≡_, _∙_, ap, ap₂, sym, subst, subst₂}
 use Prim.Native.Nat.{ℕ, _≤_}
 use native.Mathlib.Omega.{arith}

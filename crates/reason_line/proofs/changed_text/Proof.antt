@@ -1,5 +1,5 @@
 -- `changed_text` meets its contract: each place is written after the one before. Assumes nothing.
-use mathlib.Core.List.{List, [], _∷_, _++_}
+use mathlib.Core.List.{[], _∷_, _++_}
 use mathlib.Core.Path.{sym, subst}
 use native.Mathlib.Omega.{arith}
 use Rattle.reason.specs.declared.Places.{Places}
