@@ -10,4 +10,5 @@ pub mod Explaining
 pub mod Cases
 pub mod Shams
 pub mod ShamsBack
+pub mod ShamsExplain
 pub mod Handed

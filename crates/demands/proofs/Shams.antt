@@ -6,12 +6,10 @@
 --     never     a refusal is not an acceptance
 --     Refuses everything [P3]: no refusal fits a call that has to be accepted.
 --     count-refusing, check-refusing, next-refusing, changed-refusing, run-refusing, run-changed-refusing [P3]
---     explain-refusing, number-refusing, form-refusing, form-on-sheet-refusing, tree-refusing [P3]
---     schedule-of-tree-refusing [P3]
+--     number-refusing, form-refusing, form-on-sheet-refusing, tree-refusing, schedule-of-tree-refusing [P3]
 --     read-refusing, read-beaten-refusing, write-refusing, write-beaten-refusing [P3]
 --     Answers one fixed number [P5]: none fits both of two calls.
 --     count-fixed, next-fixed, changed-fixed, run-fixed, run-changed-fixed, number-fixed, read-fixed, write-fixed [P5]
---     explain-fixed [P5]
 --     Leaves one fixed form, record or table [P6d]: none fits both of two calls.
 --     next-fixed-form, run-fixed-form, form-fixed, form-on-sheet-fixed, tree-fixed, schedule-of-tree-fixed [P6d]
 --     read-fixed-form, write-fixed-record [P6d]
@@ -36,7 +34,6 @@ use Rattle.circle.specs.Step.{shift, found, has01, movesNext}
 use Rattle.circle.specs.Step as rule
 use Rattle.circle.specs.Walk.{steps, worked}
 use Rattle.circle.specs.Walk as walk
-use Rattle.reason.specs.Explanation.{differingFrom, explanationOf}
 use Rattle.tree.specs.Tree.{leaf, node, size, word, root, lefts, rights, parents}
 use Rattle.tree.specs.Table.{Has, Treed, filled}
 use Rattle.tree.proofs.Theorems.{treed-one}
@@ -45,7 +42,7 @@ use Rattle.tree_back.specs.Back as back
 use Rattle.tree_back.proofs.Theorems.{untreed-one}
 use Rattle.record.specs.Bytes.{lowFirst, valueOf, tabulate}
 use Rattle.demands.specs.Calls.{count, check, next, changed, run, run-changed, number, form, form-on-sheet, Gives}
-use Rattle.demands.specs.Calls.{explain, tree, schedule-of-tree, read, write}
+use Rattle.demands.specs.Calls.{tree, schedule-of-tree, read, write}
 
 -- the first three forms of (3,2), the two of (2,2), what is lent to be written into, and the record of a form of (3,2)
 abbrev form-11100 : List ℕ
@@ -122,10 +119,6 @@ module _ (why : Refusal) (m : List ℕ) (x : List (List ℕ)) where
   unfolding firstFrom ones zeros
   run-changed-refusing g = never (g .0 .0)
 
-  pub explain-refusing : Gives (explain 3 2 form-11100) (Verdict.Refused why) m x → ⊥
-  unfolding firstFrom ones zeros
-  explain-refusing g = never (g .0 .0)
-
   pub number-refusing : Gives (number 3 2 form-11100) (Verdict.Refused why) m x → ⊥
   unfolding firstFrom ones zeros
   number-refusing g = never (g .0 .0)
@@ -184,10 +177,6 @@ module _ (v w : Verdict) (n : ℕ) (x y : List (List ℕ)) where
       Gives (run-changed 3 2 form-11100 1) v (n ∷ []) x → Gives (run-changed 3 2 form-11100 2) w (n ∷ []) y → ⊥
   unfolding every firstFrom ones zeros isSchedule shift found has01 movesNext rule.next walk.changed steps worked
   run-changed-fixed g h = let z : _≡_ {A = ℕ} 2 4 = cc (g .0 .1, h .0 .1) in omega arith
-
-  pub explain-fixed : {k : List ℕ} → Gives (explain 3 2 form-11100) v k x → Gives (explain 3 2 form-10110) w k y → ⊥
-  unfolding N every firstFrom ones zeros isSchedule shift found has01 movesNext rule.next differingFrom explanationOf
-  explain-fixed g h = let z : _≡_ {A = ℕ} 0 1 = cc (g .0 .1, h .0 .1) in omega arith
 
   pub number-fixed : Gives (number 3 2 form-11100) v (n ∷ []) x → Gives (number 3 2 form-10110) w (n ∷ []) y → ⊥
   unfolding N every firstFrom ones zeros isSchedule shift found has01 movesNext rule.next walk.changed steps
