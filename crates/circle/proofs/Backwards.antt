@@ -1,5 +1,6 @@
 -- The circle walked backwards: the manual, "The step back". Each once over t and s, for all counts that have a form,
 -- the one-form cases and (0, 0) too.
+--     steps-first           k + 1 steps are k steps after the first one
 --     previous-next         the previous form of every form's next form is that form, and [V3]
 --     next-previous         the other way about [V3]
 --     previous-precedes     the previous form of b is the one schedule of t, s whose next form is b [V2]
@@ -33,7 +34,7 @@ use Rattle.circle.proofs.Undone.{previous-moved}
 use Rattle.circle.proofs.Theorems.{one-form}
 
 -- the first of some steps, in place of the last
-steps-first : (k : ℕ) (b : List ℕ) → steps (suc k) b ≡ steps k (next b)
+pub steps-first : (k : ℕ) (b : List ℕ) → steps (suc k) b ≡ steps k (next b)
 unfolding steps
 steps-first zero b = refl
 steps-first (suc k) b = ap next (steps-first k b)

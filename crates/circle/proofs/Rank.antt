@@ -4,8 +4,8 @@
 --     rank r          the rank; `rankOf b` of a list written first beat first
 --     rank-below      it is below N of the counts
 --     rank-same       two schedules of the same counts with the same rank are equal
--- That the rank is the fewest steps from t ones then s zeros is `rank-fewest` in proofs/Numbers of the crate
--- `number`. Assumes nothing.
+-- That the rank is the number from t ones then s zeros is `top-number-rank` in proofs/Places of the crate `number`.
+-- Assumes nothing.
 use mathlib.Core.List.{List, [], _∷_, reverse}
 use mathlib.Core.Path.{_≡_, refl, _∙_, ap, sym}
 use Prim.Native.Nat.{ℕ, zero, suc, pred, _+_, _-_, _≤_, _<_}

@@ -57,7 +57,7 @@ previous-leaves-1001 : previousLeft 2 2 (1 ∷ 0 ∷ 0 ∷ 1 ∷ []) ≡ 1 ∷ 0
 unfolding firstFrom ones zeros
 previous-leaves-1001 = refl
 
--- one step back from 10101, two from 11100, past number 0, and one step too many for a run
+-- one step back from 10101, two from 11100, and one step too many for a run
 run-back-answers-4 : runBackAnswer 3 2 (1 ∷ 0 ∷ 1 ∷ 0 ∷ 1 ∷ []) 1 ≡ Answer.Value 4
 unfolding previous unshift afterFound found has01 firstFrom ones zeros stepsBack changed workedBack
 run-back-answers-4 = refl

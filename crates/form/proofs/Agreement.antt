@@ -70,5 +70,5 @@ module _ (t s : ℕ) where
       let below = mod-lt (m + k) (N-pos t s (within .1)) in
       ap (λ (b : List ℕ). runLeft t s b k) (written m out e)
       ∙ ap (λ (v : Verdict). left v (steps k (formOf t s m)) (formOf t s m)) (run-taken t s (formOf t s m) k accepted h)
-      ∙ walking-asking (within .1) m k (within .2)
+      ∙ walking-asking (within .1) m k
       ∙ sym (written after out (form-accepted (within .0, within .1) after out below (asked .1)))

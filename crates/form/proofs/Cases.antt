@@ -1,10 +1,13 @@
 -- The definitions of specs/ on small inputs, by computing them: two values of each. Assumes nothing.
 use mathlib.Core.List.{[], _∷_}
 use mathlib.Core.Path.{_≡_, refl}
+use Rattle.bounded.specs.Bounded.{every, firstFrom}
 use Rattle.refusal.specs.declared.Refusal.the-variants.{NoSuchNumber, WrongLength, NoRoom}
 use Rattle.refusal.specs.declared.Verdict.{Verdict}
 use Rattle.refusal.specs.Rows.{judge}
 use Rattle.triangle.specs.Count.{N}
+use Rattle.schedule.specs.Schedule.{ones, zeros, isSchedule}
+use Rattle.circle.specs.Step.{shift, found, has01, movesNext, next}
 use Rattle.circle.specs.Walk.{steps}
 use Rattle.form.specs.Answers.{
   numberRows,
@@ -16,17 +19,9 @@ use Rattle.form.specs.Answers.{
   sheetVerdict,
   sheetLeft,
 }
-use Rattle.form.specs.Place.{placeOf, floorOf}
+use Rattle.form.specs.Place.{floorOf}
 
--- places in a list S of five forms, and floors
-place-0 : placeOf 5 0 ≡ 5
-unfolding placeOf
-place-0 = refl
-
-place-2 : placeOf 5 2 ≡ 2
-unfolding placeOf
-place-2 = refl
-
+-- floors
 floor-3-2 : floorOf 3 2 ≡ 3
 unfolding floorOf N
 floor-3-2 = refl
@@ -68,8 +63,8 @@ form-beyond : formVerdict 2 1 2 (7 ∷ 7 ∷ 7 ∷ []) ≡ Verdict.Refused NoSuc
 unfolding N
 form-beyond = refl
 
-form-leaves-110 : formLeft 2 1 0 (7 ∷ 7 ∷ 7 ∷ []) ≡ 1 ∷ 1 ∷ 0 ∷ []
-unfolding N steps
+form-leaves-110 : formLeft 2 1 1 (7 ∷ 7 ∷ 7 ∷ []) ≡ 1 ∷ 1 ∷ 0 ∷ []
+unfolding N every firstFrom ones zeros isSchedule shift found has01 movesNext next steps
 form-leaves-110 = refl
 
 form-leaves-lent : formLeft 2 1 2 (7 ∷ 7 ∷ 7 ∷ []) ≡ 7 ∷ 7 ∷ 7 ∷ []
@@ -93,9 +88,9 @@ sheet-beyond : sheetVerdict 2 1 2 (7 ∷ 7 ∷ 7 ∷ 7 ∷ []) 1 ≡ Verdict.Ref
 unfolding N
 sheet-beyond = refl
 
-sheet-leaves-110 : sheetLeft 2 1 0 (7 ∷ 7 ∷ 7 ∷ 7 ∷ []) 1 ≡ 7 ∷ 1 ∷ 1 ∷ 0 ∷ []
-unfolding N steps
-sheet-leaves-110 = refl
+sheet-leaves-101 : sheetLeft 2 1 0 (7 ∷ 7 ∷ 7 ∷ 7 ∷ []) 1 ≡ 7 ∷ 1 ∷ 0 ∷ 1 ∷ []
+unfolding N firstFrom zeros shift found has01 next steps
+sheet-leaves-101 = refl
 
 sheet-leaves-lent : sheetLeft 2 1 1 (7 ∷ 7 ∷ 7 ∷ 7 ∷ []) 2 ≡ 7 ∷ 7 ∷ 7 ∷ 7 ∷ []
 unfolding N

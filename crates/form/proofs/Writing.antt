@@ -1,6 +1,5 @@
 -- From a number to its form, last beat first: one turn of the writing loop, on plain values. A place is
 -- one in list S, from 1 on.
---     place-zero, place-more     how the place of a number is found
 --     floor-zero, floor-more     how the floor is looked up
 --     AtPlace                    a list written last beat first is a schedule of p, q, and stands at place k
 --     Behind                     what is written from i on, and what is still to be written
@@ -12,10 +11,10 @@
 -- Assumes nothing.
 use mathlib.Core.Bool.{Bool, true, false, not, cond}
 use mathlib.Core.List.{List, [], _∷_, _++_, reverseAux}
-use mathlib.Core.Path.{_≡_, refl, _∙_, ap, sym}
-use Prim.Native.Nat.{ℕ, zero, suc, _+_, _-_, _≤_, _<_}
+use mathlib.Core.Path.{_≡_, refl, _∙_, ap, ap₂, sym}
+use Prim.Native.Nat.{ℕ, zero, suc, pred, _+_, _-_, _≤_, _<_}
 use native.Mathlib.Decide.{decLe}
-use native.Mathlib.Numerals.{sub-one}
+use native.Mathlib.Numerals.{add-one, sub-one}
 use native.Mathlib.Omega.{arith}
 use borrow.Author.Tests.{ltb-true, ltb-false}
 use mir.Val.{boolByte}
@@ -28,41 +27,15 @@ use Rattle.schedule.specs.Schedule.{ones, zeros}
 use Rattle.schedule.proofs.Hand.{Turned, down, up, ones-turn, zeros-turn, unturned, plays-schedule}
 use Rattle.circle.specs.Step.{top}
 use Rattle.circle.proofs.Shape.{ups, downs, shape-join, top-shape, turn-ups, turn-downs}
-use Rattle.circle.proofs.Rank.{raise, rank, rank-below}
+use Rattle.circle.proofs.Rank.{raise, rank, rankOf, rank-below}
 use Rattle.circle.proofs.Advance.{flat, flat-ones, flat-zeros, flat-rank}
-use Rattle.circle.proofs.Circle.{same-rank}
+use Rattle.circle.proofs.Circle.{rank-lt, same-rank}
 use Rattle.number.specs.Number.{formOf}
 use Rattle.number.proofs.Counting.{flat-turned}
-use Rattle.form.specs.Place.{placeOf, floorOf}
-use Rattle.number.proofs.Numbers.{form-schedule, form-rank}
+use Rattle.number.proofs.Numbers.{form-schedule}
+use Rattle.number.proofs.Places.{placeOf, place-zero, place-more, place-same, place-back, raise-place, form-place}
+use Rattle.form.specs.Place.{floorOf}
 use Rattle.form.proofs.Filling.{written-at}
-
-pub place-zero : (m v : ℕ) → v ≡ 0 → m ≡ placeOf m v
-unfolding placeOf
-place-zero m v e = rw e
-
-pub place-more : (m v : ℕ) → ((v ≡ 0) → ⊥) → v ≡ placeOf m v
-unfolding placeOf
-place-more m zero e = absurd (e refl)
-place-more m (suc v) e = refl
-
-place-some : (m v : ℕ) → v < m → (1 ≤ placeOf m v) × (placeOf m v ≤ m)
-unfolding placeOf
-place-some m zero h = (omega arith, omega arith)
-place-some m (suc v) h = (omega arith, omega arith)
-
-place-same : (m v w : ℕ) → v < m → w < m → placeOf m v ≡ placeOf m w → v ≡ w
-unfolding placeOf
-place-same m zero zero h k e = refl
-place-same m zero (suc w) h k e = absurd (omega arith)
-place-same m (suc v) zero h k e = absurd (omega arith)
-place-same m (suc v) (suc w) h k e = e
-
--- a place before the last is the number
-place-back : (m v k : ℕ) → k < m → placeOf m v ≡ k → v ≡ k
-unfolding placeOf
-place-back m zero k h e = absurd (omega arith)
-place-back m (suc v) k h e = e
 
 pub floor-zero : (p q : ℕ) → q ≡ 0 → 0 ≡ floorOf p q
 unfolding floorOf
@@ -93,13 +66,6 @@ floor-add (suc p) (suc q) h l = rw (sub-one (suc p), sub-one (suc q)) (by q (ome
     by zero h = omega (arith, N-zero p, N-zero (suc p))
     by (suc q) h = N-add p q (omega arith)
 
--- the rank after one more 1, by the place before it
-raise-place : (p q v : ℕ) → 1 ≤ q → q ≤ p → raise (suc p) q v + 1 ≡ floorOf (suc p) q + placeOf (N p q) v
-unfolding raise floorOf placeOf
-raise-place p zero v h l = absurd (omega arith)
-raise-place p (suc q) zero h l = omega (arith, N-add p q (omega arith), N-pos (suc p) (suc q) (omega arith))
-raise-place p (suc q) (suc v) h l = omega arith
-
 pub record AtPlace (p q k : ℕ) (r : List ℕ) : Type 0 where
   pub turned : Turned r
   pub ups : ones r ≡ p
@@ -118,14 +84,12 @@ pub record Behind (t s n : ℕ) (b : List ℕ) (i p k all low : ℕ) : Type 0 wh
   pub floored : low ≡ floorOf p down
   pub first : 1 ≤ k
   pub last : k ≤ all
-  pub whole : (r : List ℕ) → AtPlace p down k r → AtPlace t s (placeOf (N t s) n) (reverseAux (drop i b) r)
+  pub whole : (r : List ℕ) → AtPlace p down k r → AtPlace t s (suc n) (reverseAux (drop i b) r)
 
 pub behind-none : {t s n : ℕ} (b : List ℕ) → t ≤ largest → s ≤ t → length b ≡ t + s → n < N t s
-    → {all low k : ℕ} → all ≡ N t s → low ≡ floorOf t s → k ≡ placeOf all n
-    → Behind t s n b (length b) t k all low
-behind-none {t} {s} {n} b h l e o a f g =
-    let place = g ∙ ap (λ (m : ℕ). placeOf m n) a in
-    let some = place-some (N t s) n o in
+    → {all low : ℕ} → all ≡ N t s → low ≡ floorOf t s
+    → Behind t s n b (length b) t (n + 1) all low
+behind-none {t} {s} {n} b h l e o a f =
     record {
       down = s;
       left = e;
@@ -134,9 +98,9 @@ behind-none {t} {s} {n} b h l e o a f g =
       small = h;
       counted = a;
       floored = f;
-      first = omega (arith, place, some .0);
-      last = omega (arith, place, some .1);
-      whole = λ r w. rw (drop-length b, ← place) w;
+      first = omega arith;
+      last = omega (arith, a);
+      whole = λ r w. rw (drop-length b, ← add-one n) w;
     }
 
 module _ {t s n : ℕ} {b : List ℕ} {i p k all low : ℕ} (u : Behind t s n b i p k all low) (h : (k ≡ all) → ⊥) where
@@ -174,9 +138,9 @@ module _ {t s n : ℕ} {b : List ℕ} {i p k all low : ℕ} (u : Behind t s n b 
   one-within true = omega arith
   one-within false = omega (arith, behind-some, u .level)
 
-  -- the place is also the number
+  -- the place is also the rank
   own-place : k ≡ placeOf (N p (u .down)) k
-  own-place = place-more (N p (u .down)) k (λ e. omega (arith, u .first))
+  own-place = place-more (N p (u .down)) k (u .first)
 
   behind-down : {p′ k′ all′ low′ : ℕ} → k < low → p′ ≡ p → k′ ≡ k → all′ ≡ low → low′ ≡ floorOf p (u .down - 1)
       → Behind t s n (set b (i - 1) 0) (i - 1) p′ k′ all′ low′
@@ -212,7 +176,7 @@ module _ {t s n : ℕ} {b : List ℕ} {i p k all low : ℕ} (u : Behind t s n b 
   behind-up l ep ek ea el =
       let p1 : suc (p - 1) ≡ p = omega (arith, u .level, behind-some) in
       let few = count-some (p - 1) (u .down) (omega (arith, all-add, u .last, h)) in
-      let floor = ap (λ (m : ℕ). floorOf m (u .down)) p1 in
+      let floor : low ≡ N (suc (p - 1)) (pred (u .down)) = floor-count ∙ ap₂ N (sym p1) (omega arith) in
       record {
         down = u .down;
         left = omega (arith, u .left, u .level, behind-some);
@@ -236,7 +200,6 @@ module _ {t s n : ℕ} {b : List ℕ} {i p k all low : ℕ} (u : Behind t s n b 
                     arith,
                     raise-place (p - 1) (u .down) (rank r) behind-some few,
                     floor,
-                    u .floored,
                     g .place,
                     floor-some,
                   ) in
@@ -283,5 +246,8 @@ module _ {t s n : ℕ} {b : List ℕ} {i p k all low : ℕ} (u : Behind t s n b 
       plays-schedule {t = t} {s = s} plays (omega (arith, ones-turn c [], w .ups))
       (omega (arith, zeros-turn c [], w .downs)) in
       let below : rank (reverseAux c []) < N t s = rw (← w .ups, ← w .downs) (rank-below (w .turned)) in
-      let value = place-same (N t s) (rank (reverseAux c [])) n below o (w .place) in
-      same-rank form (form-schedule l n) (value ∙ sym (form-rank l n o))
+      let listed = form-schedule l n in
+      let value =
+      place-same (N t s) (rank (reverseAux c [])) (rankOf (formOf t s n)) below (rank-lt listed)
+      (w .place ∙ sym (form-place l n o)) in
+      same-rank form listed value

@@ -1,13 +1,8 @@
 -- Parts of the way from a number to its form, for the contracts of private functions. Nothing here has to be believed.
 -- Definitions only.
---     placeOf m v      the place of number v in a list S of m forms, from 1 on: number 0 closes the list
 --     floorOf p q      the forms of p, q at places before it end in a 0: N(p, q−1), and 0 for q = 0
 use Prim.Native.Nat.{ℕ, zero, suc}
 use Rattle.triangle.specs.Count.{N}
-
-unfoldable pub placeOf : ℕ → ℕ → ℕ
-placeOf m zero = m
-placeOf m (suc v) = suc v
 
 unfoldable pub floorOf : ℕ → ℕ → ℕ
 floorOf p zero = 0

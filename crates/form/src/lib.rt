@@ -12,17 +12,10 @@ ghost use Rattle.triangle.specs.Count.{N, largest};
 ghost use Rattle.lookup.specs.Lent.{Counts};
 ghost use Rattle.circle.specs.Step.{top};
 ghost use Rattle.number.specs.Number.{formOf};
-ghost use Rattle.form.specs.Place.{placeOf, floorOf};
+ghost use Rattle.form.specs.Place.{floorOf};
 use refusal::Refusal;
 use refusal::Verdict;
 use triangle::SIDE;
-
-// The place in list S of the form of a number, from 1 on: ones and then zeros close the list.
-fn listed(number: u64, all: u64) -> u64
-    ensures { λ r. ⌜ r ≡ placeOf all number ⌝ }
-{
-    if number == 0 { all } else { number }
-}
 
 // N(p, q−1), and 0 for q = 0: the forms of p, q before that place end in a 0.
 fn floor(rows: &[[u64; SIDE]], p: u64, q: u64) -> u64
@@ -56,7 +49,7 @@ fn front(p: u64, until: usize, out: &mut [u8])
 }
 
 // Writes the form of a number, from its last beat to its first. At a turn the beats before at, p of them
-// ones, stand at place k of all the places of their list S, and end in a 0 exactly if k is below low.
+// ones, stand at place k, from 1 on, of all the places of their list S, and end in a 0 exactly if k is below low.
 // The next low is one of two counts that add up to low, and one of these is looked up before the beat is
 // known, so that no beat waits for a look-up. [M8] [F3]
 fn write(rows: &[[u64; SIDE]], t: u64, s: u64, number: u64, out: &mut [u8])
@@ -67,7 +60,7 @@ fn write(rows: &[[u64; SIDE]], t: u64, s: u64, number: u64, out: &mut [u8])
     let mut p = t;
     let mut all = lookup::look(rows, t, s);
     let mut low = floor(rows, t, s);
-    let mut k = listed(number, all);
+    let mut k = number + 1;
     while k != all {
         at -= 1;
         let next = lookup::look(rows, p - 1, at as u64 - p);

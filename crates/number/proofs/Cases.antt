@@ -15,41 +15,72 @@ use Rattle.schedule.specs.Schedule.{ones, zeros, Schedule, isSchedule, Lists}
 use Rattle.schedule.proofs.Cases.{fits-11010, ahead-1001}
 use Rattle.circle.specs.Step.{shift, found, has01, movesNext, next}
 use Rattle.circle.specs.Walk.{steps, changed}
-use Rattle.number.specs.Number.{start, Fewest, same, numberOf, formOf}
+use Rattle.number.specs.Number.{same, Fewest, stepsTo, start, numberOf, formOf, numberFromTop, formFromTop}
 use Rattle.number.specs.Answers.{numberAnswer}
 use Rattle.number.specs.Groups.{upTo, lastGroup, ending, S}
-use Rattle.number.specs.Ranking.{isSized, goesOn, Ranks}
+use Rattle.number.specs.Ranking.{isSized, isLevel, goesOn, Ranks}
 use Rattle.number.proofs.Theorems.{number-fewest, S-lists}
 
--- the third of the four forms of 4, 1, and the sixth of the nine of 4, 2
-number-11011 : numberOf 4 1 (1 ∷ 1 ∷ 0 ∷ 1 ∷ 1 ∷ []) ≡ 2
+-- the second of the four forms of 4, 1, and the fifth of the nine of 4, 2
+number-11011 : numberOf 4 1 (1 ∷ 1 ∷ 0 ∷ 1 ∷ 1 ∷ []) ≡ 1
 unfolding N every firstFrom ones zeros isSchedule shift found has01 movesNext next steps changed
 number-11011 = refl
 
-number-110101 : numberOf 4 2 (1 ∷ 1 ∷ 0 ∷ 1 ∷ 0 ∷ 1 ∷ []) ≡ 5
+number-110101 : numberOf 4 2 (1 ∷ 1 ∷ 0 ∷ 1 ∷ 0 ∷ 1 ∷ []) ≡ 4
 unfolding N every firstFrom ones zeros isSchedule shift found has01 movesNext next steps changed
 number-110101 = refl
 
-form-4-1-2 : formOf 4 1 2 ≡ 1 ∷ 1 ∷ 0 ∷ 1 ∷ 1 ∷ []
+form-4-1-1 : formOf 4 1 1 ≡ 1 ∷ 1 ∷ 0 ∷ 1 ∷ 1 ∷ []
 unfolding every firstFrom ones zeros isSchedule shift found has01 movesNext next steps
-form-4-1-2 = refl
+form-4-1-1 = refl
 
-form-4-2-5 : formOf 4 2 5 ≡ 1 ∷ 1 ∷ 0 ∷ 1 ∷ 0 ∷ 1 ∷ []
+form-4-2-4 : formOf 4 2 4 ≡ 1 ∷ 1 ∷ 0 ∷ 1 ∷ 0 ∷ 1 ∷ []
 unfolding every firstFrom ones zeros isSchedule shift found has01 movesNext next steps
-form-4-2-5 = refl
+form-4-2-4 = refl
 
--- 11010 is two steps from 11100; one step leads to another form, and seven lead there again
-fewest-2 : Fewest 3 2 (1 ∷ 1 ∷ 0 ∷ 1 ∷ 0 ∷ []) 2
+-- all ones and then the zeros have the last number
+number-1110 : numberOf 3 1 (1 ∷ 1 ∷ 1 ∷ 0 ∷ []) ≡ 2
 unfolding N every firstFrom ones zeros isSchedule shift found has01 movesNext next steps changed
-fewest-2 = number-fewest fits-11010
+number-1110 = refl
 
-fewest-1 : Fewest 3 2 (1 ∷ 1 ∷ 0 ∷ 1 ∷ 0 ∷ []) 1 → ⊥
-unfolding every firstFrom ones zeros isSchedule shift found has01 movesNext next steps
-fewest-1 p = let clash : _≡_ {A = ℕ} 0 1 = ap (λ (l : List ℕ). getD l 1 0) (p .leads) in omega arith
+-- and from there they are number 0
+from-top-1110 : numberFromTop 3 1 (1 ∷ 1 ∷ 1 ∷ 0 ∷ []) ≡ 0
+unfolding N firstFrom steps changed
+from-top-1110 = refl
 
-fewest-7 : Fewest 3 2 (1 ∷ 1 ∷ 0 ∷ 1 ∷ 0 ∷ []) 7 → ⊥
+from-top-11011 : numberFromTop 4 1 (1 ∷ 1 ∷ 0 ∷ 1 ∷ 1 ∷ []) ≡ 2
+unfolding N every firstFrom ones zeros isSchedule shift found has01 movesNext next steps changed
+from-top-11011 = refl
+
+form-from-top-0 : formFromTop 3 1 0 ≡ 1 ∷ 1 ∷ 1 ∷ 0 ∷ []
+unfolding steps
+form-from-top-0 = refl
+
+form-from-top-2 : formFromTop 4 1 2 ≡ 1 ∷ 1 ∷ 0 ∷ 1 ∷ 1 ∷ []
 unfolding every firstFrom ones zeros isSchedule shift found has01 movesNext next steps
-fewest-7 p = p .none-before 2 (omega arith) refl
+form-from-top-2 = refl
+
+-- 11010 is one step from 10110, where counting starts; no step leads to another form, and six lead there again
+fewest-1 : Fewest (start 3 2) (1 ∷ 1 ∷ 0 ∷ 1 ∷ 0 ∷ []) 1
+unfolding N every firstFrom ones zeros isSchedule shift found has01 movesNext next steps changed
+fewest-1 = number-fewest fits-11010
+
+fewest-0 : Fewest (start 3 2) (1 ∷ 1 ∷ 0 ∷ 1 ∷ 0 ∷ []) 0 → ⊥
+unfolding every firstFrom ones zeros isSchedule shift found has01 movesNext next steps
+fewest-0 p = let clash : _≡_ {A = ℕ} 0 1 = ap (λ (l : List ℕ). getD l 1 0) (p .leads) in omega arith
+
+fewest-6 : Fewest (start 3 2) (1 ∷ 1 ∷ 0 ∷ 1 ∷ 0 ∷ []) 6 → ⊥
+unfolding every firstFrom ones zeros isSchedule shift found has01 movesNext next steps
+fewest-6 p = p .none-before 1 (omega arith) refl
+
+-- one step from 110 to 101; in two steps at most no way leads to a list that is no form
+steps-to-101 : stepsTo (1 ∷ 1 ∷ 0 ∷ []) 2 (1 ∷ 0 ∷ 1 ∷ []) ≡ 1
+unfolding every firstFrom ones zeros isSchedule shift found has01 movesNext next steps changed
+steps-to-101 = refl
+
+steps-to-none : stepsTo (1 ∷ 1 ∷ 0 ∷ []) 2 (0 ∷ 1 ∷ 1 ∷ []) ≡ 2
+unfolding every firstFrom ones zeros isSchedule shift found has01 movesNext next steps changed
+steps-to-none = refl
 
 -- equal lists; another beat; one beat more
 same-101 : same (1 ∷ 0 ∷ 1 ∷ []) (1 ∷ 0 ∷ 1 ∷ []) ≡ true
@@ -85,7 +116,7 @@ ending-1 = refl
 ending-2 : ending 2 2 (1 ∷ 0 ∷ []) ≡ 1 ∷ 0 ∷ 1 ∷ []
 ending-2 = refl
 
--- number 0 closes the list
+-- all ones and then the zeros close the list
 S-2-1 : S 2 1 ≡ (1 ∷ 0 ∷ 1 ∷ []) ∷ (1 ∷ 1 ∷ 0 ∷ []) ∷ []
 unfolding S upTo
 S-2-1 = refl
@@ -112,6 +143,16 @@ unsized-1-2 = refl
 unsized-4 : isSized 3 2 (1 ∷ 1 ∷ 0 ∷ 1 ∷ []) ≡ false
 unsized-4 = refl
 
+-- 11 and then 0 may begin a schedule of 3 ones; 1111 may not, nor 1 and then 00
+level-3 : isLevel 3 2 1 ≡ true
+level-3 = refl
+
+steep-4 : isLevel 3 4 0 ≡ false
+steep-4 = refl
+
+deep-2 : isLevel 3 1 2 ≡ false
+deep-2 = refl
+
 -- after 110, of a schedule of 3 ones: a 0 may stand; a 2 may not; after 1 0 no 0 may; after 1110 no 1 may
 goes-on : goesOn 3 2 1 0 ≡ true
 goes-on = refl
@@ -125,16 +166,16 @@ nothing-in-hand = refl
 one-too-many : goesOn 3 3 1 1 ≡ false
 one-too-many = refl
 
--- 11010 is whole and has the number 2, and no other; 1001 is not whole
-ranks-2 : Ranks 3 2 (1 ∷ 1 ∷ 0 ∷ 1 ∷ 0 ∷ []) true 2
+-- 11010 is whole and has the number 1, and no other; 1001 is not whole
+ranks-1 : Ranks 3 2 (1 ∷ 1 ∷ 0 ∷ 1 ∷ 0 ∷ []) true 1
 unfolding N every firstFrom ones zeros isSchedule shift found has01 movesNext next steps changed
-ranks-2 = ((omega arith, omega arith), fits-11010, refl)
+ranks-1 = ((omega arith, omega arith), fits-11010, refl)
 
-ranks-not-3 : Ranks 3 2 (1 ∷ 1 ∷ 0 ∷ 1 ∷ 0 ∷ []) true 3 → ⊥
+ranks-not-2 : Ranks 3 2 (1 ∷ 1 ∷ 0 ∷ 1 ∷ 0 ∷ []) true 2 → ⊥
 unfolding N every firstFrom ones zeros isSchedule shift found has01 movesNext next steps changed
-ranks-not-3 p = let clash : _≡_ {A = ℕ} 3 2 = p .2 in omega arith
+ranks-not-2 p = let clash : _≡_ {A = ℕ} 2 1 = p .2 in omega arith
 
-ranks-whole : Ranks 3 2 (1 ∷ 1 ∷ 0 ∷ 1 ∷ 0 ∷ []) false 2 → ⊥
+ranks-whole : Ranks 3 2 (1 ∷ 1 ∷ 0 ∷ 1 ∷ 0 ∷ []) false 1 → ⊥
 ranks-whole f = f (omega arith, omega arith) fits-11010
 
 ranks-1001 : Ranks 2 2 (1 ∷ 0 ∷ 0 ∷ 1 ∷ []) false 0
@@ -143,17 +184,19 @@ ranks-1001 a p = ahead-1001 p
 ranks-not-1001 : (n : ℕ) → Ranks 2 2 (1 ∷ 0 ∷ 0 ∷ 1 ∷ []) true n → ⊥
 ranks-not-1001 n p = ahead-1001 (p .1)
 
--- counting starts at all ones and then the zeros
-start-3-2 : start 3 2 ≡ 1 ∷ 1 ∷ 1 ∷ 0 ∷ 0 ∷ []
+-- counting starts at the form after all ones and then the zeros
+start-3-2 : start 3 2 ≡ 1 ∷ 0 ∷ 1 ∷ 1 ∷ 0 ∷ []
+unfolding next has01 found firstFrom zeros shift
 start-3-2 = refl
 
 start-1-1 : start 1 1 ≡ 1 ∷ 0 ∷ []
+unfolding next has01 found firstFrom zeros shift
 start-1-1 = refl
 
 -- what the call answers: the number of 11010, and 1001, which has nothing in hand at place 2
-answers-2 : numberAnswer 3 2 (1 ∷ 1 ∷ 0 ∷ 1 ∷ 0 ∷ []) ≡ Answer.Value 2
+answers-1 : numberAnswer 3 2 (1 ∷ 1 ∷ 0 ∷ 1 ∷ 0 ∷ []) ≡ Answer.Value 1
 unfolding N every firstFrom ones zeros isSchedule shift found has01 movesNext next steps changed
-answers-2 = refl
+answers-1 = refl
 
 answers-5 : numberAnswer 2 2 (1 ∷ 0 ∷ 0 ∷ 1 ∷ []) ≡ Answer.Refused (EmptyHand 2)
 unfolding firstFrom ones zeros

@@ -1,18 +1,19 @@
--- The number of a form from its beats: one turn of the loop after the leftmost 0 followed by 1, on plain values. The
+-- The number of a form from its beats: one turn of the loop after the leading ones and zeros, on plain values. The
 -- beats need not be a schedule: each is tested before it is counted.
 --     sized-parts, parts-sized     what the test of the sizes says
+--     level-parts        what the test of the leading ones and zeros says
 --     no-rank            what is said of beats that are no schedule
 --     ranked             what the last test of the ones says of the whole
 --     front i b          the beats before i, last first
 --     goes-parts         what the test of a beat says
 --     goes-on            every beat of a schedule passes it
---     Counted            ups, downs and number are the counts and the rank of the beats before i, which
---                        play, and the rank is not 0
---     rise-goes          a schedule's first beat after its first zeros passes the test
---     counted-rise       after the found 1
+--     Counted            ups, downs and number are the counts and the place of the beats before i, which play; a
+--                        beat stands after zeros, and a 0 only where these are not the first
+--     front-level        the leading ones and zeros of a schedule pass their test
+--     counted-front      they are counted
 --     counted-turn       one beat more
 --     counted-all, counted-short      at the end it is the number of the form, if the ones are t
---     flat-all, flat-short            ones and then zeros have number 0
+--     flat-turned        ones and then no more zeros play
 -- Assumes nothing.
 use mathlib.Core.Bool.{Bool, true, false, _&&_, and-eq-true-iff}
 use mathlib.Core.List.{List, [], _∷_, reverse, reverse-append}
@@ -24,7 +25,7 @@ use native.Mathlib.Omega.{arith}
 use borrow.Author.Tests.{ltb-true, leb-true, eqb-true, eqb-false, lt-ltb, le-leb, eq-eqb}
 use lib.Dec.{leb, ltb, eqb}
 use lib.ListN.{length, getD, take}
-use lib.Seq.{take-suc, take-all, take-append-add}
+use lib.Seq.{take-suc, take-all}
 use Rattle.triangle.specs.Count.{N, largest}
 use Rattle.triangle.proofs.Count.{N-pos}
 use Rattle.counts.specs.Counts.{Allowed}
@@ -39,29 +40,19 @@ use Rattle.schedule.proofs.Hand.{
   unturned,
   start,
   plays-schedule,
+  schedule-zeros,
   ones-turn,
   zeros-turn,
 }
 use Rattle.schedule.proofs.Tally.{prefix-up, prefix-down}
 use Rattle.schedule.proofs.Skipping.{Skips}
-use Rattle.circle.proofs.Shape.{
-  ups,
-  downs,
-  shape-plays,
-  shape-length,
-  shape-ones,
-  shape-zeros,
-  shape-join,
-  turn-ups,
-  turn-downs,
-}
-use Rattle.circle.proofs.Rank.{rank, rankOf, rank-below}
-use Rattle.circle.proofs.Stores.{Found, rising}
-use Rattle.circle.proofs.Stores.{flat as Found·flat}
-use Rattle.circle.proofs.Advance.{raise-some, flat, flat-ones, flat-zeros, flat-rank, flat-up, rank-flat, two-forms}
+use Rattle.circle.proofs.Shape.{ups, downs, shape-plays, shape-ones, shape-zeros, turn-ups, turn-downs}
+use Rattle.circle.proofs.Rank.{raise, rank, rankOf, rank-below}
+use Rattle.circle.proofs.Advance.{flat, flat-ones, flat-zeros, flat-rank}
 use Rattle.number.specs.Number.{numberOf}
-use Rattle.number.specs.Ranking.{isSized, goesOn, Ranks}
-use Rattle.number.proofs.Numbers.{number-rank}
+use Rattle.number.specs.Ranking.{isSized, isLevel, goesOn, Ranks}
+use Rattle.number.proofs.Places.{placeOf, place-zero, place-more, place-some, number-place}
+use Rattle.number.proofs.Places.{raise-place, raise-more}
 use Rattle.number.proofs.Rising.{split-take}
 
 -- the test of the sizes
@@ -88,6 +79,12 @@ ranked {t} {s} {b} {n} u v right wrong = by (eqb u v) refl
     by : (q : Bool) → eqb u v ≡ q → Ranks t s b q n
     by true e = right (eqb-true u v e)
     by false e = λ a p. wrong (eqb-false u v e) p
+
+-- the test of the leading ones and zeros
+pub level-parts : (t p q : ℕ) → isLevel t p q ≡ true → (p ≤ t) × (q ≤ p)
+level-parts t p q e =
+    let both = and-eq-true-iff (leb p t) (leb q p) .0 e in
+    (leb-true p t (both .0), leb-true q p (both .1))
 
 -- the test of a beat
 module _ (t p q beat : ℕ) where
@@ -143,29 +140,27 @@ pub record Counted (t : ℕ) (b : List ℕ) (i up down number : ℕ) : Type 0 wh
   pub few : up ≤ t
   pub ups : up ≡ ones (front i b)
   pub downs : down ≡ zeros (front i b)
-  pub value : number ≡ rank (front i b)
-  pub risen : 1 ≤ number
+  pub value : suc number ≡ placeOf (N up down) (rank (front i b))
+  pub some : i < length b → getD b i 0 ≤ 1 → 1 ≤ down
+  pub rises : i < length b → getD b i 0 ≡ 0 → 1 ≤ rank (front i b)
 
 module _ {t : ℕ} {b : List ℕ} {i p q number : ℕ} (c : Counted t b i p q number) where
   pub counted-level : q ≤ p
   counted-level = omega (arith, c .ups, c .downs, level (c .played))
 
-  pub counted-below : number < N p q
-  counted-below = rw (c .ups, c .downs, c .value) (rank-below (c .played))
+  rank-few : rank (front i b) < N p q
+  rank-few = rw (c .ups, c .downs) (rank-below (c .played))
 
-  pub counted-down : 1 ≤ q
-  counted-down = by q counted-below
-    where
-      by : (d : ℕ) → number < N p d → 1 ≤ d
-      by zero h = absurd (omega (arith, c .risen, none-left p h))
-        where
-          none-left : (u : ℕ) → number < N u 0 → number < 1
-          none-left u h = unfold N in h
-      by (suc d) h = omega arith
+  pub counted-below : number < N p q
+  counted-below = omega (arith, c .value, place-some (N p q) (rank (front i b)) rank-few .1)
 
   -- a beat of a schedule passes the test
   pub counted-goes : {s : ℕ} → Schedule t s b → i < length b → goesOn t p q (getD b i 0) ≡ true
   counted-goes r h = rw (c .ups, c .downs, front-ones b i, front-zeros b i) (goes-on r i h)
+
+  -- there is a 0 before a beat that passes it
+  pub counted-down : i < length b → (beat : ℕ) → beat ≡ getD b i 0 → goesOn t p q beat ≡ true → 1 ≤ q
+  counted-down h beat e fits = c .some h (omega (arith, goes-parts t p q beat fits .0))
 
   pub counted-turn : i < length b → (beat grown : ℕ) → beat ≡ getD b i 0 → goesOn t p q beat ≡ true
       → grown ≡ beat * (N (p + beat) (q - 1) - 1)
@@ -173,6 +168,7 @@ module _ {t : ℕ} {b : List ℕ} {i p q number : ℕ} (c : Counted t b i p q nu
   unfolding ones zeros rank
   counted-turn h zero grown e fits g =
       let may = goes-parts t p q 0 fits in
+      let risen = c .rises h (sym e) in
       record {
         inside = omega arith;
         played =
@@ -180,28 +176,41 @@ module _ {t : ℕ} {b : List ℕ} {i p q number : ℕ} (c : Counted t b i p q nu
         few = may .1;
         ups = rw (front-more b i h, ← e) (omega (arith, c .ups));
         downs = rw (front-more b i h, ← e) (omega (arith, c .downs));
-        value = rw (front-more b i h, ← e) (omega (arith, c .value, g, none));
-        risen = omega (arith, c .risen);
+        value = rw (front-more b i h, ← e)
+            (omega (arith, c .value, g, none, place-more (N p q) (rank (front i b)) risen)
+            ∙ place-more (N (p + 0) (q + 1)) (rank (front i b)) risen);
+        some = λ k l. omega arith;
+        rises = λ k l. rw (front-more b i h, ← e) risen;
       }
     where
       none : 0 * (N (p + 0) (q - 1) - 1) ≡ 0
       none = omega arith
   counted-turn h (suc zero) grown e fits g =
       let may = goes-parts t p q 1 fits in
-      let pos = N-pos (suc p) (q - 1) (omega (arith, counted-level)) in
-      let some =
-      raise-some (suc (ones (front i b))) (zeros (front i b)) (rank (front i b)) (omega (arith, c .risen, c .value)) in
-      let here : N (p + 1) (q - 1) ≡ N (suc (ones (front i b))) (pred (zeros (front i b))) =
-      ap₂ N (omega (arith, c .ups)) (omega (arith, c .downs)) in
-      let same : N (suc p) (q - 1) ≡ N (p + 1) (q - 1) = ap (λ (u : ℕ). N u (q - 1)) (omega arith) in
+      let q-some = counted-down h 1 e fits in
+      let risen = raise-more p q (rank (front i b)) q-some counted-level rank-few in
+      let here : raise (suc (ones (front i b))) (zeros (front i b)) (rank (front i b))
+      ≡ raise (suc p) q (rank (front i b)) =
+      ap₂ (λ (u d : ℕ). raise (suc u) d (rank (front i b))) (sym (c .ups)) (sym (c .downs)) in
+      let same : N (p + 1) (q - 1) ≡ N (suc p) (pred q) = ap₂ N (omega arith) (omega arith) in
       record {
         inside = omega arith;
         played = rw (front-more b i h, ← e) (up (c .played));
         few = may .1;
         ups = rw (front-more b i h, ← e) (omega (arith, c .ups));
         downs = rw (front-more b i h, ← e) (omega (arith, c .downs));
-        value = rw (front-more b i h, ← e) (omega (arith, c .value, c .risen, g, some, here, same, pos));
-        risen = omega (arith, c .risen);
+        value = rw (front-more b i h, ← e, here)
+            (omega (
+              arith,
+              c .value,
+              g,
+              same,
+              raise-place p q (rank (front i b)) q-some counted-level,
+              N-pos (suc p) (pred q) (omega (arith, counted-level)),
+            )
+            ∙ place-more (N (p + 1) (q + 0)) (raise (suc p) q (rank (front i b))) risen);
+        some = λ k l. omega (arith, q-some);
+        rises = λ k l. rw (front-more b i h, ← e, here) risen;
       }
   counted-turn h (suc (suc x)) grown e fits g = absurd (omega (arith, goes-parts t p q (suc (suc x)) fits .0))
 
@@ -215,74 +224,59 @@ module _ {t : ℕ} {b : List ℕ} {i p q number : ℕ} (c : Counted t b i p q nu
       let ups : ones b ≡ t = omega (arith, c .ups, front-ones b i, ap ones whole) in
       let own = plays-schedule played refl refl in
       let fits : Schedule t s b = plays-schedule played ups (omega (arith, own .size)) in
-      (fits, c .value ∙ ap (λ (l : List ℕ). rank (reverse l)) whole ∙ sym (number-rank fits))
+      let downs : q ≡ s = omega (arith, c .downs, front-zeros b i, ap zeros whole, schedule-zeros fits) in
+      let place : suc number ≡ placeOf (N t s) (rankOf b) =
+      c .value ∙ ap₂ placeOf (ap₂ N all downs) (ap (λ (l : List ℕ). rank (reverse l)) whole) in
+      (fits, omega (arith, place, number-place fits))
 
   pub counted-short : length b ≤ i → p ≢ t → {s : ℕ} → Schedule t s b → ⊥
   counted-short h few r = few (omega (arith, c .ups, front-ones b i, ap ones (take-all i b h), r .taken))
 
--- the beats up to the found 1, last first
-front-rise : (p q : ℕ) (z : List ℕ) (k : ℕ) → k ≡ p + q + 1 → front k (ups p (downs q (1 ∷ z))) ≡ 1 ∷ flat p q
-front-rise p q z k e =
-    let w = ups p (downs q []) in
-    let long : k ≡ length w + 1 = omega (arith, shape-length p q []) in
-    ap₂ (λ (n : ℕ) (l : List ℕ). reverse (take n l)) long (sym (shape-join p q (1 ∷ z)))
-    ∙ ap reverse (take-append-add w (1 ∷ z) 1)
-    ∙ reverse-append w (1 ∷ [])
-    ∙ ap (λ (l : List ℕ). 1 ∷ l) (turn-ups p (downs q []) [] ∙ turn-downs q [] (ups p []))
-
 -- ones and then no more zeros play
-flat-plays : (p q : ℕ) → q ≤ p → plays 0 (ups p (downs q [])) ≡ true
-unfolding plays
-flat-plays p q h = shape-plays p q (p - q) [] (omega arith)
-
 pub flat-turned : (p q : ℕ) → q ≤ p → Turned (flat p q)
-unfolding ones zeros
+unfolding plays ones zeros
 flat-turned p q h =
     subst Turned (turn-ups p (downs q []) [] ∙ turn-downs q [] (ups p []))
-    (turned 0 (ups p (downs q [])) [] (omega arith) start (flat-plays p q h))
+    (turned 0 (ups p (downs q [])) [] (omega arith) start (shape-plays p q (p - q) [] (omega arith)))
 
-module _ {t : ℕ} {b : List ℕ} {y x : ℕ} where
-  pub rise-goes : Skips b 0 1 y → Skips b y 0 x → x < length b → {s : ℕ} → Schedule t s b
-      → goesOn t y (x - y) (getD b x 0) ≡ true
+-- the leading ones and zeros, which two scans find
+module _ {t : ℕ} {b : List ℕ} {y x : ℕ} (sy : Skips b 0 1 y) (sx : Skips b y 0 x) where
+  pub front-level : {s : ℕ} → Schedule t s b → isLevel t y (x - y) ≡ true
   unfolding ones zeros
-  rise-goes sy sx h p =
-      let before = split-take sy sx in
-      let p' : y ≡ ones (take x b) = omega (arith, ap ones before, shape-ones y (x - y) []) in
-      let q' : x - y ≡ zeros (take x b) = omega (arith, ap zeros before, shape-zeros y (x - y) []) in
-      ap₂ (λ (u d : ℕ). goesOn t u d (getD b x 0)) p' q' ∙ goes-on p x h
+  front-level p =
+      let lead = split-take sy sx in
+      let ups-are : y ≡ ones (take x b) = omega (arith, ap ones lead, shape-ones y (x - y) []) in
+      let downs-are : x - y ≡ zeros (take x b) = omega (arith, ap zeros lead, shape-zeros y (x - y) []) in
+      simp (
+        le-leb y t (omega (arith, ups-are, ones-take b x, p .taken)),
+        le-leb (x - y) y (omega (arith, ups-are, downs-are, p .ahead x (sx .high))),
+      )
 
-  pub counted-rise : Found b y x → x < length b → x - y ≤ y → y + 1 ≤ t → (n : ℕ) → n ≡ N (y + 1) (x - y) - 1
-      → Counted t b (x + 1) (y + 1) (x - y) n
-  counted-rise (Found·flat u d e ey ex) h l f n v = absurd (omega (arith, ap length e, shape-length u d []))
-  counted-rise (rising u d z e ey ex) h l f n v =
-      let at : front (x + 1) b ≡ 1 ∷ flat (suc u) (suc d) =
-      ap (front (x + 1)) e ∙ front-rise (suc u) (suc d) z (x + 1) (omega arith) in
-      let value : n ≡ N (suc (suc u)) (suc d) - 1 = v ∙ ap₂ (λ (a c : ℕ). N a c - 1) (omega arith) (omega arith) in
+  pub counted-front : y ≤ t → x - y ≤ y → (n : ℕ) → n ≡ N y (x - y) - 1 → Counted t b x y (x - y) n
+  counted-front few h n e =
+      let at : front x b ≡ flat y (x - y) =
+      ap reverse (split-take sy sx) ∙ turn-ups y (downs (x - y) []) [] ∙ turn-downs (x - y) [] (ups y []) in
+      let first : rank (front x b) ≡ 0 = ap rank at ∙ flat-rank y (x - y) in
       record {
-        inside = omega arith;
-        played = rw at (up (flat-turned (suc u) (suc d) (omega arith)));
-        few = f;
-        ups = rw at (unfold ones in omega (arith, flat-ones (suc u) (suc d)));
-        downs = rw at (unfold zeros in omega (arith, flat-zeros (suc u) (suc d)));
-        value = value ∙ sym (ap rank at ∙ flat-up (suc u) (suc d));
-        risen = omega (arith, two-forms (suc u) d (omega arith));
+        inside = sx .high;
+        played = rw at (flat-turned y (x - y) h);
+        few = few;
+        ups = rw at (sym (flat-ones y (x - y)));
+        downs = rw at (sym (flat-zeros y (x - y)));
+        value = omega (arith, e, N-pos y (x - y) h) ∙ place-zero (N y (x - y)) (rank (front x b)) first;
+        some = λ k l. by (x - y) refl k l;
+        rises = λ k z. absurd (sx .stop k z);
       }
-
-  -- where nothing stands after the zeros
-  pub flat-all : Found b y x → x ≡ length b → y ≡ t → {s : ℕ} → s ≤ t → length b ≡ t + s
-      → Schedule t s b × (0 ≡ numberOf t s b)
-  unfolding ones zeros
-  flat-all (Found·flat u d e ey ex) h all {s} few long =
-      let size = shape-length u d [] in
-      let plays' : plays 0 b ≡ true = ap (plays 0) e ∙ flat-plays u d (omega (arith, ap length e)) in
-      let fits : Schedule t s b =
-      plays-schedule plays' (omega (arith, ap ones e, shape-ones u d []))
-      (omega (arith, ap length e, ap zeros e, shape-zeros u d [])) in
-      (fits, sym (number-rank fits ∙ ap rankOf e ∙ rank-flat u d [] ∙ flat-rank u d))
-  flat-all (rising u d z e ey ex) h all few long =
-      absurd (omega (arith, ap length e, shape-length (suc u) (suc d) (1 ∷ z)))
-
-  pub flat-short : Found b y x → x ≡ length b → y ≢ t → {s : ℕ} → Schedule t s b → ⊥
-  unfolding ones
-  flat-short (Found·flat u d e ey ex) h few r = few (omega (arith, ap ones e, shape-ones u d [], r .taken))
-  flat-short (rising u d z e ey ex) h few r = absurd (omega (arith, ap length e, shape-length (suc u) (suc d) (1 ∷ z)))
+    where
+      -- a beat after no zeros is neither a 0 nor a 1
+      by : (d : ℕ) → x - y ≡ d → x < length b → getD b x 0 ≤ 1 → 1 ≤ x - y
+      by (suc d) e k l = omega arith
+      by zero e k l =
+          let here : x ≡ y = omega (arith, sx .low) in
+          let other : (v : ℕ) → getD b x 0 ≡ v → v ≤ 1 → ⊥ = beat here in
+          absurd (other (getD b x 0) refl l)
+        where
+          beat : x ≡ y → (v : ℕ) → getD b x 0 ≡ v → v ≤ 1 → ⊥
+          beat here zero q m = sx .stop k q
+          beat here (suc zero) q m = sy .stop (omega arith) (ap (λ (n : ℕ). getD b n 0) (sym here) ∙ q)
+          beat here (suc (suc v)) q m = omega arith

@@ -2,7 +2,7 @@
 --     ending-schedule, ending-rank     a front with a 1 and zeros after it
 --     Run                              the forms of a list have ranks that follow on one another
 --     group-run, groups-run            a group, and the groups one after the other
---     Placed, S-placed                 S has N(t, s) forms, of the ranks 1, 2, .., N − 1, and 0 at its end
+--     Placed, S-placed                 S has N(t, s) forms, each at its place
 -- Assumes nothing.
 use mathlib.Core.Bool.{true, false≢true}
 use mathlib.Core.List.{List, [], _∷_, _++_, map, reverse, reverseAux, reverseAux-append}
@@ -23,6 +23,7 @@ use Rattle.circle.specs.Step.{top}
 use Rattle.circle.proofs.Rank.{raise, rank, rankOf}
 use Rattle.circle.proofs.Circle.{top-schedule, top-rank}
 use Rattle.number.specs.Groups.{upTo, lastGroup, ending, S}
+use Rattle.number.proofs.Places.{placeOf, place-zero, place-more, raise-place}
 
 plays-append : (h : ℕ) (f c : List ℕ) (k : ℕ) → plays h f ≡ true → k + zeros f ≡ h + ones f → plays k c ≡ true
     → plays h (f ++ c) ≡ true
@@ -106,21 +107,11 @@ run-join {t} {s} {from} l m p q = record { forms = λ j h. at j h .0; ranks = λ
               )
         ]
 
--- all forms of t, s: the ranks 1, 2, .., N − 1 and, at the end, 0
+-- all forms of t, s, each at its place
 pub record Placed (t s : ℕ) (l : List (List ℕ)) : Type 0 where
   pub long : length l ≡ N t s
   pub forms : (j : ℕ) → j < length l → Schedule t s (getD l j [])
-  pub inner : (j : ℕ) → suc j < length l → rankOf (getD l j []) ≡ suc j
-  pub last : (j : ℕ) → suc j ≡ length l → rankOf (getD l j []) ≡ 0
-
--- the rank of a form with its ending, by the place of its front
-raise-inner : (t i j : ℕ) → i ≤ suc t → raise (suc t) (suc i) (suc j) ≡ suc (N (suc t) i - 1 + j)
-unfolding raise
-raise-inner t i j h = omega (arith, N-pos (suc t) i h)
-
-raise-last : (t i j : ℕ) → i ≤ t → suc j ≡ N t (suc i) → raise (suc t) (suc i) 0 ≡ suc (N (suc t) i - 1 + j)
-unfolding raise
-raise-last t i j h e = omega (arith, N-add t i h, N-pos (suc t) i (omega arith))
+  pub places : (j : ℕ) → j < length l → placeOf (N t s) (rankOf (getD l j [])) ≡ suc j
 
 -- the group of i + 1
 group-run : (t s i : ℕ) (l : List (List ℕ)) → suc i ≤ t → suc i ≤ s → s ≤ suc t → Placed t (suc i) l
@@ -139,12 +130,12 @@ group-run t s i l h k m p =
 
     by : (j : ℕ) → j < length l → raise (suc t) (suc i) (rankOf (getD l j [])) ≡ suc (N (suc t) i - 1 + j)
     by j b =
-        elim (decLt (suc j) (length l)) [
-          | yes more ↦ ap (raise (suc t) (suc i)) (p .inner j more) ∙ raise-inner t i j (omega arith)
-          | no more ↦
-              ap (raise (suc t) (suc i)) (p .last j (omega arith))
-              ∙ raise-last t i j (omega arith) (omega (arith, p .long))
-        ]
+        omega (
+          arith,
+          raise-place t (suc i) (rankOf (getD l j [])) (omega arith) h,
+          p .places j b,
+          N-pos (suc t) i (omega arith),
+        )
 
 module _ (t s : ℕ) (m : s ≤ suc t) (all : (i : ℕ) → i ≤ t → Placed t i (S t i)) where
   abbrev groups : ℕ → List (List ℕ)
@@ -186,12 +177,19 @@ module _ (t s : ℕ) (m : s ≤ suc t) (all : (i : ℕ) → i ≤ t → Placed t
               let here : j ≡ length (groups n) = omega (arith, long) in
               rw (here, getD-append-seam (groups n) (top (suc t) s) [] []) (top-schedule (suc t) s m)
         ];
-        inner = λ j b. let l : j < length (groups n) = omega (arith, long) in
-            ap rankOf (left-at (groups n) (top (suc t) s ∷ []) j l) ∙ omega (arith, g .ranks j l);
-        last = λ j b. let here : j ≡ length (groups n) = omega (arith, long) in
-            ap (λ (x : ℕ). rankOf (getD (groups n ++ top (suc t) s ∷ []) x [])) here
-            ∙ ap rankOf (getD-append-seam (groups n) (top (suc t) s) [] [])
-            ∙ top-rank (suc t) s;
+        places = λ j b. elim (decLt j (length (groups n))) [
+          | yes l ↦
+              let own : rankOf (getD (groups n ++ top (suc t) s ∷ []) j []) ≡ suc j =
+              ap rankOf (left-at (groups n) (top (suc t) s ∷ []) j l) ∙ omega (arith, g .ranks j l) in
+              sym (place-more (N (suc t) s) _ (omega (arith, own))) ∙ own
+          | no l ↦
+              let here : j ≡ length (groups n) = omega (arith, long) in
+              let own =
+              ap (λ (x : ℕ). rankOf (getD (groups n ++ top (suc t) s ∷ []) x [])) here
+              ∙ ap rankOf (getD-append-seam (groups n) (top (suc t) s) [] [])
+              ∙ top-rank (suc t) s in
+              sym (place-zero (N (suc t) s) _ own) ∙ omega (arith, here, groups-long n h, e)
+        ];
       }
 
   -- for t = s the group i = s has no fronts: t is the last group [E8]
@@ -211,10 +209,10 @@ S-placed zero zero h =
     record {
       long = sym (N-zero 0);
       forms = λ j b. let here : j ≡ 0 = omega arith in rw here (top-schedule 0 0 (omega arith));
-      inner = λ j b. absurd (omega arith);
-      last = λ j b.
+      places = λ j b.
           let here : j ≡ 0 = omega arith in
-          ap (λ (k : ℕ). rankOf (getD (top 0 0 ∷ []) k [])) here ∙ top-rank 0 0;
+          let own = ap (λ (k : ℕ). rankOf (getD (top 0 0 ∷ []) k [])) here ∙ top-rank 0 0 in
+          sym (place-zero (N 0 0) _ own) ∙ omega (arith, N-zero 0);
     }
 S-placed zero (suc s) h = absurd (omega arith)
 S-placed (suc t) s h = S-suc t s h (λ i k. S-placed t i k) (ℕ-discrete (suc t) s)

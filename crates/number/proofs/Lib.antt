@@ -1,5 +1,6 @@
 pub mod Numbers
 pub mod Walking
+pub mod Places
 pub mod InGroups
 pub mod Theorems
 pub mod Rising

@@ -2,8 +2,6 @@
 -- the first from there on that is not 0.
 --     split        the beats are y ones, then zeros up to x, then the rest
 --     split-take   so the beats before x are these ones and zeros
---     flat-found   nothing stands after the zeros
---     rise-found   a 1 stands after the zeros, of which there is one at least and no more than there are ones
 -- Assumes nothing.
 use mathlib.Core.List.{List, [], _∷_}
 use mathlib.Core.Path.{_≡_, refl, _∙_, ap, ap₂, sym}
@@ -12,9 +10,7 @@ use native.Mathlib.Omega.{arith}
 use lib.ListN.{length, getD, take}
 use lib.Seq.{take-append-add}
 use Rattle.schedule.proofs.Skipping.{Skips}
-use Rattle.circle.proofs.Shape.{ups, downs, shape-length, shape-join, get-ups, get-downs}
-use Rattle.circle.proofs.Stores.{Found, rising}
-use Rattle.circle.proofs.Stores.{flat as Found·flat}
+use Rattle.circle.proofs.Shape.{ups, downs, shape-length, shape-join, get-ups}
 
 split-ups : (y : ℕ) (b : List ℕ) → y ≤ length b → ((k : ℕ) → k < y → getD b k 0 ≡ 1) → (z : List ℕ) × (b ≡ ups y z)
 split-ups zero b h f = (b, refl)
@@ -31,7 +27,7 @@ split-downs (suc q) (x ∷ b) h f =
     (rest .0, ap₂ (λ (v : ℕ) (l : List ℕ). v ∷ l) (f 0 (omega arith)) (rest .1))
 
 module _ {b : List ℕ} {y x : ℕ} (sy : Skips b 0 1 y) (sx : Skips b y 0 x) where
-  pub split : (z : List ℕ) × (b ≡ ups y (downs (x - y) z))
+  split : (z : List ℕ) × (b ≡ ups y (downs (x - y) z))
   split =
       let first = split-ups y b (sy .high) (λ k l. sy .run k (omega arith) l) in
       let beat : (k : ℕ) → getD (first .0) k 0 ≡ getD b (y + k) 0 =
@@ -49,38 +45,3 @@ module _ {b : List ℕ} {y x : ℕ} (sy : Skips b 0 1 y) (sx : Skips b y 0 x) wh
       ap₂ take long (split .1 ∙ sym (shape-join y (x - y) (split .0)))
       ∙ take-append-add w (split .0) 0
       ∙ shape-join y (x - y) []
-
-  pub flat-found : x ≡ length b → Found b y x
-  flat-found h = by (split .0) (split .1)
-    where
-      by : (z : List ℕ) → b ≡ ups y (downs (x - y) z) → Found b y x
-      by [] e = Found·flat y (x - y) e refl (omega (arith, sx .low))
-      by (c ∷ z) e = absurd (omega (arith, sx .low, ap length e, shape-length y (x - y) (c ∷ z)))
-
-  pub rise-found : x < length b → getD b x 0 ≤ 1 → x - y ≤ y → Found b y x
-  rise-found h one level = by y (x - y) (split .0) (split .1) refl refl
-    where
-      rest : (p q : ℕ) (c : ℕ) (z : List ℕ) → b ≡ ups p (downs q (c ∷ z)) → p ≡ y → q ≡ x - y → c ≡ 1
-      rest p q c z e ep eq =
-          let here : getD b x 0 ≡ c =
-          ap (λ (l : List ℕ). getD l x 0) e
-          ∙ get-ups p q x (downs q (c ∷ z)) (omega (arith, sx .low))
-          ∙ get-downs q 0 q (c ∷ z) (omega arith) in
-          single c here
-        where
-          single : (c : ℕ) → getD b x 0 ≡ c → c ≡ 1
-          single zero k = absurd (sx .stop h k)
-          single (suc zero) k = refl
-          single (suc (suc c)) k = absurd (omega (arith, one))
-
-      by : (p q : ℕ) (z : List ℕ) → b ≡ ups p (downs q z) → p ≡ y → q ≡ x - y → Found b y x
-      by p q [] e ep eq = absurd (omega (arith, sx .low, ap length e, shape-length p q []))
-      by p zero (c ∷ z) e ep eq =
-          let same : x ≡ y = omega (arith, sx .low) in
-          let met : getD b y 0 ≡ 1 =
-          ap (λ (l : List ℕ). getD l y 0) e ∙ get-ups p 0 y (c ∷ z) (omega arith) ∙ rest p zero c z e ep eq in
-          absurd (sy .stop (omega arith) met)
-      by zero (suc q) (c ∷ z) e ep eq = absurd (omega arith)
-      by (suc p) (suc q) (c ∷ z) e ep eq =
-          rising p q z (e ∙ ap (λ (v : ℕ). ups (suc p) (downs (suc q) (v ∷ z))) (rest (suc p) (suc q) c z e ep eq))
-          (omega arith) (omega (arith, sx .low))

@@ -1,9 +1,13 @@
 -- The number of a form, the manual, "The number"; the letter, demand 2 [O2]. Definitions only.
---     start t s          where counting starts: t ones then s zeros
---     Fewest t s b n     n is the fewest steps that lead from there to b [M1]
 --     same               whether two lists of beats are equal, as a test
---     numberOf t s b     the number: the first n below N(t, s) for which n steps from the start lead to b [O2]
---     formOf t s n       the form of number n: n steps from the start [O2]
+--     Fewest a b n       n is the fewest steps that lead from a to b [M1]
+--     stepsTo a m b      the first n below m for which n steps from a lead to b
+--     start t s          where counting starts: the form after t ones and s zeros [M0]
+--     numberOf t s b     the number of a form, its number in the catalogue: the steps from there [O2]
+--     formOf t s n       the form of number n: n steps from there [O2]
+-- The earlier numbering, which records of kind 1 hold, counts from t ones then s zeros itself:
+--     numberFromTop t s b     the steps from there [M9]
+--     formFromTop t s n       n steps from there [M9]
 use mathlib.Core.Bool.{Bool, _&&_}
 use mathlib.Core.List.{List}
 use mathlib.Core.Path.{_≡_}
@@ -12,21 +16,30 @@ use lib.Dec.{eqb}
 use lib.ListN.{length}
 use Rattle.bounded.specs.Bounded.{first}
 use Rattle.triangle.specs.Count.{N}
-use Rattle.circle.specs.Step.{top}
+use Rattle.circle.specs.Step.{next, top}
 use Rattle.circle.specs.Walk.{steps, changed}
-
-abbrev pub start : ℕ → ℕ → List ℕ
-start t s = top t s
-
-pub record Fewest (t s : ℕ) (b : List ℕ) (n : ℕ) : Type 0 where
-  pub leads : steps n (start t s) ≡ b
-  pub none-before : (k : ℕ) → k < n → steps k (start t s) ≡ b → ⊥
 
 abbrev pub same : List ℕ → List ℕ → Bool
 same b c = eqb (length b) (length c) && eqb (changed b c) 0
 
+pub record Fewest (a b : List ℕ) (n : ℕ) : Type 0 where
+  pub leads : steps n a ≡ b
+  pub none-before : (k : ℕ) → k < n → steps k a ≡ b → ⊥
+
+abbrev pub stepsTo : List ℕ → ℕ → List ℕ → ℕ
+stepsTo a m b = first (λ n. same (steps n a) b) m
+
+abbrev pub start : ℕ → ℕ → List ℕ
+start t s = next (top t s)
+
 abbrev pub numberOf : ℕ → ℕ → List ℕ → ℕ
-numberOf t s b = first (λ n. same (steps n (start t s)) b) (N t s)
+numberOf t s b = stepsTo (start t s) (N t s) b
 
 abbrev pub formOf : ℕ → ℕ → ℕ → List ℕ
 formOf t s n = steps n (start t s)
+
+abbrev pub numberFromTop : ℕ → ℕ → List ℕ → ℕ
+numberFromTop t s b = stepsTo (top t s) (N t s) b
+
+abbrev pub formFromTop : ℕ → ℕ → ℕ → List ℕ
+formFromTop t s n = steps n (top t s)

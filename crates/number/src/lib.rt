@@ -7,14 +7,15 @@ ghost use Prim.Native.Nat.{_+_, _-_, _*_, _≤_};
 ghost use Rattle.triangle.specs.Count.{N, largest, mostBeats};
 ghost use Rattle.lookup.specs.Lent.{Counts};
 ghost use Rattle.number.specs.Answers.{numberAnswer};
-ghost use Rattle.number.specs.Ranking.{isSized, goesOn, Ranks};
+ghost use Rattle.number.specs.Ranking.{isSized, isLevel, goesOn, Ranks};
 use refusal::Answer;
 use refusal::Verdict;
 use schedule::wide;
 use triangle::SIDE;
 
-// What a beat after ups ones and downs zeros, not all ones before all zeros, adds to the number. No
-// branch goes by the beat, which could not be predicted.
+// What a beat after ups ones and downs zeros adds to the number, where they are not all ones before all zeros: a 0
+// nothing; a 1 the forms that end in a 0, but for the closing one, since these are listed before it. No branch goes by
+// the beat, which could not be predicted.
 fn growth(rows: &[[u64; SIDE]], ups: u64, downs: u64, beat: u64) -> u64
     requires { ⌜ Counts (now rows) × (ups + beat ≤ largest) × (1 ≤ downs) × (downs ≤ ups) × (beat ≤ 1) ⌝ }
     ensures { λ r. ⌜ r ≡ beat * (N (ups + beat) (downs - 1) - 1) ⌝ }
@@ -33,6 +34,16 @@ fn sized(t: u64, s: u64, beats: &[u8]) -> bool
         return false;
     }
     beats.len() as u64 == t + s
+}
+
+// Whether ups ones and then downs zeros may begin a schedule of t ones.
+fn level(t: u64, ups: u64, downs: u64) -> bool
+    ensures { λ r. ⌜ r ≡ isLevel t ups downs ⌝ }
+{
+    if t < ups {
+        return false;
+    }
+    downs <= ups
 }
 
 // Whether a beat may stand after ups ones and downs zeros of a schedule of t ones.
@@ -65,8 +76,8 @@ fn unranked() -> Ranked
     }
 }
 
-// The number of a schedule: 0 for ones and then zeros; else that of the beats up to the 1 of the
-// leftmost 0 followed by 1, and what each beat after it adds. The beats are tested as they are read. [M8]
+// The number of a schedule, its place in list S: the leading ones and zeros close their own list, and each beat after
+// them adds its growth. The beats are tested as they are read. [M8]
 fn rank(rows: &[[u64; SIDE]], t: u64, s: u64, beats: &[u8]) -> Ranked
     requires { ⌜ Counts (now rows) ⌝ }
     ensures { λ r. ⌜ Ranks t s (now (beats .entry)) (r .whole) (r .number) ⌝ }
@@ -78,18 +89,11 @@ fn rank(rows: &[[u64; SIDE]], t: u64, s: u64, beats: &[u8]) -> Ranked
     let rise = schedule::skip(beats, up, 0);
     let mut ups = up as u64;
     let mut downs = (rise - up) as u64;
-    if rise == beats.len() {
-        return Ranked {
-            whole: ups == t,
-            number: 0,
-        };
-    }
-    if !fits(t, ups, downs, wide(beats[rise])) {
+    if !level(t, ups, downs) {
         return unranked();
     }
-    ups += 1;
     let mut number = lookup::look(rows, ups, downs) - 1;
-    let mut at = rise + 1;
+    let mut at = rise;
     while at < beats.len() {
         let beat = wide(beats[at]);
         if !fits(t, ups, downs, beat) {

@@ -9,6 +9,7 @@ use mir.Val.{boolByte}
 use lib.Dec.{ltb}
 use lib.ListN.{length, length-set}
 use Rattle.triangle.specs.Count.{N}
+use Rattle.triangle.proofs.Rule.{N-fits}
 use Rattle.form.proofs.Writing.{
   Behind,
   behind-none,
@@ -37,23 +38,24 @@ look-requires c κs = let start = c .before in (start .pre .0, start .pre .1, st
 floor-requires : tie.Need-floor-requires Inv-loop μ-loop
 floor-requires c κs = let start = c .before .before in (start .pre .0, start .pre .1, start .pre .2)
 
-listed-requires : tie.Need-listed-requires Inv-loop μ-loop
-listed-requires c κs = search needs
+add-k : tie.Need-add-k Inv-loop μ-loop
+add-k c =
+    let start = c .before .before .before in
+    omega (arith, start .pre .4, N-fits (start .args .t) (start .args .s) (start .pre .1))
 
 loop-holds : tie.Need-loop-holds Inv-loop μ-loop
 loop-holds c =
-    let looked = c .before .before in
+    let looked = c .before in
     let start = looked .before .before in
     let args = start .args in
     let pre = start .pre in (
       refl,
-      behind-none (args .out .now) (pre .1) (pre .2) (pre .3) (pre .4) (looked .look .ensures)
-          (c .before .floor .ensures) (c .listed .ensures),
+      behind-none (args .out .now) (pre .1) (pre .2) (pre .3) (pre .4) (looked .look .ensures) (c .floor .ensures),
     )
 
 -- where the loop's test is reached, back to the call
 abbrev entry : tie.At-loop Inv-loop μ-loop → tie.Start Inv-loop μ-loop
-entry c = c .before .before .before .before .before
+entry c = c .before .before .before .before
 
 -- at a turn there is a 0 left
 some : (c : tie.In-loop Inv-loop μ-loop) → 1 ≤ c .before .loop .inv .1 .down
@@ -161,7 +163,7 @@ write-spec =
     μ-loop
     look-requires
     floor-requires
-    listed-requires
+    add-k
     loop-holds
     sub-at
     sub-look

@@ -1,5 +1,5 @@
--- `number::rank` meets its contract: ones and then zeros have number 0; else each turn of the loop counts one beat
--- more, which was tested. Where a test fails, the beats are no schedule of these counts. Assumes nothing.
+-- `number::rank` meets its contract: the leading ones and zeros close their own list, and each turn of the loop counts
+-- one beat more, which was tested. Where a test fails, the beats are no schedule of these counts. Assumes nothing.
 use mathlib.Core.Bool.{true, true≢false}
 use mathlib.Core.Logic.{_≢_}
 use mathlib.Core.Path.{_≡_, refl, _∙_, ap, ap₂, sym}
@@ -9,30 +9,28 @@ use borrow.Author.Needs.{needs}
 use borrow.Author.Tests.{not-true, not-false}
 use lib.ListN.{length, getD}
 use Rattle.triangle.specs.Count.{N, largest}
+use Rattle.triangle.proofs.Count.{N-pos}
 use Rattle.triangle.proofs.Rule.{N-fits}
 use Rattle.counts.specs.Counts.{Allowed}
 use Rattle.schedule.proofs.Skipping.{Skips, skipped-skips}
-use Rattle.circle.proofs.Stores.{Found}
 use Rattle.number.specs.Ranking.{goesOn}
-use Rattle.number.proofs.Rising.{flat-found, rise-found}
 use Rattle.number.proofs.Counting.{
   sized-parts,
   parts-sized,
   no-rank,
   ranked,
   goes-parts,
-  rise-goes,
+  level-parts,
+  front-level,
   Counted,
   counted-level,
   counted-below,
   counted-down,
   counted-goes,
-  counted-rise,
+  counted-front,
   counted-turn,
   counted-all,
   counted-short,
-  flat-all,
-  flat-short,
 }
 use Rattle.number.proofs.rank.Statement.{statement}
 use Rattle.number.proofs.rank.Tie as tie
@@ -91,118 +89,60 @@ module _ (c : tie.After-skip2 Inv-loop μ-loop) where
 sub-downs : tie.Need-sub-downs Inv-loop μ-loop
 sub-downs c = second c .low
 
-returns-2 : tie.Need-returns-2 Inv-loop μ-loop
-returns-2 c =
-    let scanned = c .before in
-    let args = start scanned .args in
-    let found = flat-found (first scanned) (second scanned) (c .if2 .taken) in
-    ranked (up scanned) (args .t)
-    (λ all.
-    let right = flat-all found (c .if2 .taken) all (sizes scanned .0 .1) (sizes scanned .1) in
-    (sizes scanned .0, right .0, right .1))
-    (λ few p. flat-short found (c .if2 .taken) few p)
-
-shared-slice-read-wide : tie.Need-shared-slice-read-wide Inv-loop μ-loop
-shared-slice-read-wide c = omega (arith, second (c .before .before) .high, c .before .if2 .left)
-
-wide-requires : tie.Need-wide-requires Inv-loop μ-loop
-wide-requires c κs = search needs
-
-fits-requires : tie.Need-fits-requires Inv-loop μ-loop
-fits-requires c κs =
-    let scanned = c .before .before .before in
-    omega (arith, first scanned .high, sizes scanned .0 .0, sizes scanned .0 .1, sizes scanned .1)
-
--- the beat after the first zeros was tested
-module _ (c : tie.After-fits2 Inv-loop μ-loop) where
-  abbrev scans : tie.After-skip2 Inv-loop μ-loop
-  scans = c .before .before .before .before
-
-  behind : rise scans < length (start scans .args .beats .now)
-  behind = omega (arith, second scans .high, c .before .before .before .if2 .left)
-
-  tested : c .fits2 .result
-      ≡ goesOn (start scans .args .t) (up scans) (rise scans - up scans)
-      (getD (start scans .args .beats .now) (rise scans) 0)
-  tested =
-      c .fits2 .ensures
-      ∙ ap (goesOn (start scans .args .t) (up scans) (rise scans - up scans)) (c .before .wide .ensures)
+level-requires : tie.Need-level-requires Inv-loop μ-loop
+level-requires c κs = search needs
 
 unranked-requires-2 : tie.Need-unranked-requires-2 Inv-loop μ-loop
 unranked-requires-2 c κs = search needs
 
-returns-3 : tie.Need-returns-3 Inv-loop μ-loop
-returns-3 c =
-    let met = c .before .before in
+returns-2 : tie.Need-returns-2 Inv-loop μ-loop
+returns-2 c =
+    let asked = c .before .before in
+    let scanned = asked .before in
     no-rank (c .unranked2 .result .number) (c .unranked2 .ensures)
     (λ a p. true≢false
-    (sym (rise-goes (first (scans met)) (second (scans met)) (behind met) p)
-    ∙ sym (tested met)
-    ∙ not-true (met .fits2 .result) (c .before .if3 .taken)))
+    (sym (front-level (first scanned) (second scanned) p)
+    ∙ sym (asked .level .ensures)
+    ∙ not-true (asked .level .result) (c .before .if2 .taken)))
 
--- there is a rise: what is counted up to it
-module _ (c : tie.Else3 Inv-loop μ-loop) where
+-- the leading ones and zeros may begin a schedule
+module _ (c : tie.Else2 Inv-loop μ-loop) where
   abbrev scanned : tie.After-skip2 Inv-loop μ-loop
-  scanned = scans (c .before)
+  scanned = c .before .before
 
   abbrev lent : tie.Start Inv-loop μ-loop
   lent = start scanned
 
-  may : let beat = getD (lent .args .beats .now) (rise scanned) 0 in
-      (beat ≤ 1) × (up scanned + beat ≤ lent .args .t) × (rise scanned - up scanned < up scanned + beat)
-  may =
-      goes-parts (lent .args .t) (up scanned) (rise scanned - up scanned)
-      (getD (lent .args .beats .now) (rise scanned) 0)
-      (sym (tested (c .before)) ∙ not-false (c .before .fits2 .result) (c .if3 .left))
+  lead : (up scanned ≤ lent .args .t) × (rise scanned - up scanned ≤ up scanned)
+  lead =
+      level-parts (lent .args .t) (up scanned) (rise scanned - up scanned)
+      (sym (c .before .level .ensures) ∙ not-false (c .before .level .result) (c .if2 .left))
 
-  level : rise scanned - up scanned ≤ up scanned
-  level = omega (arith, may .0, may .2)
-
-  found : Found (lent .args .beats .now) (up scanned) (rise scanned)
-  found = rise-found (first scanned) (second scanned) (behind (c .before)) (may .0) level
-
-  one-more : up scanned + 1 ≤ lent .args .t
-  one-more = omega (
-    arith,
-    may .1,
-    not-zero (getD (lent .args .beats .now) (rise scanned) 0) (second scanned .stop (behind (c .before))),
-  )
-    where
-      not-zero : (n : ℕ) → n ≢ 0 → 1 ≤ n
-      not-zero n h = omega arith
-
-  risen : (n : ℕ) → n ≡ N (up scanned + 1) (rise scanned - up scanned) - 1
-      → Counted (lent .args .t) (lent .args .beats .now) (rise scanned + 1) (up scanned + 1) (rise scanned - up scanned)
-      n
-  risen n e = counted-rise found (behind (c .before)) level one-more n e
-
-add-ups : tie.Need-add-ups Inv-loop μ-loop
-add-ups c = omega (arith, one-more c, sizes (scanned c) .0 .0)
+  counted : (n : ℕ) → n ≡ N (up scanned) (rise scanned - up scanned) - 1
+      → Counted (lent .args .t) (lent .args .beats .now) (rise scanned) (up scanned) (rise scanned - up scanned) n
+  counted n e = counted-front (first scanned) (second scanned) (lead .0) (lead .1) n e
 
 look-requires : tie.Need-look-requires Inv-loop μ-loop
-look-requires c κs = (lent c .pre, omega (arith, one-more c, sizes (scanned c) .0 .0), omega (arith, level c))
+look-requires c κs = (lent c .pre, omega (arith, lead c .0, sizes (scanned c) .0 .0), lead c .1)
 
 -- the forms that are looked up
 looked : (c : tie.After-look Inv-loop μ-loop)
-    → c .look .result ≡ N (up (scanned (c .before)) + 1) (rise (scanned (c .before)) - up (scanned (c .before)))
+    → c .look .result ≡ N (up (scanned (c .before))) (rise (scanned (c .before)) - up (scanned (c .before)))
 looked c = c .look .ensures
 
 sub-number : tie.Need-sub-number Inv-loop μ-loop
-sub-number c = omega (arith, looked c, risen (c .before) _ refl .risen)
-
-add-at : tie.Need-add-at Inv-loop μ-loop
-add-at c =
+sub-number c =
     let seen = scanned (c .before) in
-    omega (arith, behind (c .before .before), sizes seen .1, sizes seen .0 .0, sizes seen .0 .1)
+    omega (arith, looked c, N-pos (up seen) (rise seen - up seen) (lead (c .before) .1))
 
 loop-holds : tie.Need-loop-holds Inv-loop μ-loop
-loop-holds c = risen (c .before) _ (ap₂ _-_ (looked c) refl)
+loop-holds c = counted (c .before) _ (ap₂ _-_ (looked c) refl)
 
-shared-slice-read-wide-2 : tie.Need-shared-slice-read-wide-2 Inv-loop μ-loop
-shared-slice-read-wide-2 c = search needs
+shared-slice-read-wide : tie.Need-shared-slice-read-wide Inv-loop μ-loop
+shared-slice-read-wide c = search needs
 
-wide-requires-2 : tie.Need-wide-requires-2 Inv-loop μ-loop
-wide-requires-2 c κs = search needs
+wide-requires : tie.Need-wide-requires Inv-loop μ-loop
+wide-requires c κs = search needs
 
 -- one turn of the loop: the lent beats and what is counted so far
 module _ (c : tie.At-loop Inv-loop μ-loop) where
@@ -215,16 +155,16 @@ module _ (c : tie.At-loop Inv-loop μ-loop) where
   few : c .loop .ups ≤ largest
   few = omega (arith, c .loop .inv .few, sizes seen .0 .0)
 
-fits-requires-2 : tie.Need-fits-requires-2 Inv-loop μ-loop
-fits-requires-2 c κs = omega (arith, few (c .before .before .before))
+fits-requires : tie.Need-fits-requires Inv-loop μ-loop
+fits-requires c κs = omega (arith, few (c .before .before .before))
 
 -- the beat of this turn was tested
-module _ (c : tie.After-fits3 Inv-loop μ-loop) where
+module _ (c : tie.After-fits2 Inv-loop μ-loop) where
   abbrev here : tie.At-loop Inv-loop μ-loop
   here = c .before .before .before .before
 
   abbrev beat : ℕ
-  beat = c .before .wide2 .result
+  beat = c .before .wide .result
 
   inside : here .loop .at < length (asked here .args .beats .now)
   inside = c .before .before .before .loop-test .taken
@@ -232,24 +172,24 @@ module _ (c : tie.After-fits3 Inv-loop μ-loop) where
 unranked-requires-3 : tie.Need-unranked-requires-3 Inv-loop μ-loop
 unranked-requires-3 c κs = search needs
 
-returns-4 : tie.Need-returns-4 Inv-loop μ-loop
-returns-4 c =
+returns-3 : tie.Need-returns-3 Inv-loop μ-loop
+returns-3 c =
     let met = c .before .before in
     let turn = here met .loop in
-    let goes = ap (goesOn (asked (here met) .args .t) (turn .ups) (turn .downs)) (met .before .wide2 .ensures) in
+    let goes = ap (goesOn (asked (here met) .args .t) (turn .ups) (turn .downs)) (met .before .wide .ensures) in
     no-rank (c .unranked3 .result .number) (c .unranked3 .ensures)
     (λ a p. true≢false
     (sym (counted-goes (turn .inv) p (inside met))
-    ∙ sym (met .fits3 .ensures ∙ goes)
-    ∙ not-true (met .fits3 .result) (c .before .if4 .taken)))
+    ∙ sym (met .fits2 .ensures ∙ goes)
+    ∙ not-true (met .fits2 .result) (c .before .if3 .taken)))
 
 -- it passed
-module _ (c : tie.Else4 Inv-loop μ-loop) where
+module _ (c : tie.Else3 Inv-loop μ-loop) where
   abbrev turn : tie.At-loop Inv-loop μ-loop
   turn = here (c .before)
 
   goes : goesOn (asked turn .args .t) (turn .loop .ups) (turn .loop .downs) (beat (c .before)) ≡ true
-  goes = sym (c .before .fits3 .ensures) ∙ not-false (c .before .fits3 .result) (c .if4 .left)
+  goes = sym (c .before .fits2 .ensures) ∙ not-false (c .before .fits2 .result) (c .if3 .left)
 
   bit : beat (c .before) ≤ 1
   bit = goes-parts (asked turn .args .t) (turn .loop .ups) (turn .loop .downs) (beat (c .before)) goes .0
@@ -261,7 +201,10 @@ module _ (c : tie.Else4 Inv-loop μ-loop) where
 
 growth-requires : tie.Need-growth-requires Inv-loop μ-loop
 growth-requires c κs =
-    (asked (turn c) .pre, still-few c, counted-down (turn c .loop .inv), counted-level (turn c .loop .inv), bit c)
+    let met = c .before in
+    let inv = turn c .loop .inv in
+    let down = counted-down inv (inside met) (beat met) (met .before .wide .ensures) (goes c) in
+    (asked (turn c) .pre, still-few c, down, counted-level inv, bit c)
 
 -- after the growth
 grown : (c : tie.After-growth Inv-loop μ-loop)
@@ -271,7 +214,7 @@ grown : (c : tie.After-growth Inv-loop μ-loop)
     (turn .loop .downs + (1 - beat)) (turn .loop .number + c .growth .result)
 grown c =
     let met = c .before .before in
-    counted-turn (turn (c .before) .loop .inv) (inside met) (beat met) (c .growth .result) (met .before .wide2 .ensures)
+    counted-turn (turn (c .before) .loop .inv) (inside met) (beat met) (c .growth .result) (met .before .wide .ensures)
     (goes (c .before)) (c .growth .ensures)
 
 add-number : tie.Need-add-number Inv-loop μ-loop
@@ -280,8 +223,8 @@ add-number c =
     let beat = beat (c .before .before) in
     omega (arith, counted-below (grown c), N-fits (turn .ups + beat) (turn .downs + (1 - beat)) (still-few (c .before)))
 
-add-ups-2 : tie.Need-add-ups-2 Inv-loop μ-loop
-add-ups-2 c = omega (arith, still-few (c .before))
+add-ups : tie.Need-add-ups Inv-loop μ-loop
+add-ups c = omega (arith, still-few (c .before))
 
 sub-downs-2 : tie.Need-sub-downs-2 Inv-loop μ-loop
 sub-downs-2 c = bit (c .before)
@@ -289,8 +232,8 @@ sub-downs-2 c = bit (c .before)
 add-downs : tie.Need-add-downs Inv-loop μ-loop
 add-downs c = omega (arith, counted-level (grown c), still-few (c .before))
 
-add-at-2 : tie.Need-add-at-2 Inv-loop μ-loop
-add-at-2 c = search needs
+add-at : tie.Need-add-at Inv-loop μ-loop
+add-at c = search needs
 
 loop-less : tie.Need-loop-less Inv-loop μ-loop
 loop-less c = search needs
@@ -298,8 +241,8 @@ loop-less c = search needs
 loop-again : tie.Need-loop-again Inv-loop μ-loop
 loop-again c = grown c
 
-returns-5 : tie.Need-returns-5 Inv-loop μ-loop
-returns-5 c =
+returns-4 : tie.Need-returns-4 Inv-loop μ-loop
+returns-4 c =
     let turn = c .before in
     let end = c .loop-test .left in
     let size = sizes (seen turn) in
@@ -319,28 +262,23 @@ rank-spec =
     skip-requires
     skip-requires-2
     sub-downs
+    level-requires
+    unranked-requires-2
     returns-2
+    look-requires
+    sub-number
+    loop-holds
     shared-slice-read-wide
     wide-requires
     fits-requires
-    unranked-requires-2
-    returns-3
-    add-ups
-    look-requires
-    sub-number
-    add-at
-    loop-holds
-    shared-slice-read-wide-2
-    wide-requires-2
-    fits-requires-2
     unranked-requires-3
-    returns-4
+    returns-3
     growth-requires
     add-number
-    add-ups-2
+    add-ups
     sub-downs-2
     add-downs
-    add-at-2
+    add-at
     loop-less
     loop-again
-    returns-5)
+    returns-4)
