@@ -9,11 +9,11 @@ use Rattle.refusal.specs.declared.Refusal.the-variants.{EmptyHand, WrongTakeUps
 use Rattle.text.specs.Decimal.{digits, decimal}
 use Rattle.line.specs.Line.{Beats, beatText, acceptedLine, refusedText, refusedLine}
 
--- "3 2 2 11010" and a line feed
-line-3-2-2 : acceptedLine 3 2 2 (1 ∷ 1 ∷ 0 ∷ 1 ∷ 0 ∷ [])
-    ≡ 51 ∷ 32 ∷ 50 ∷ 32 ∷ 50 ∷ 32 ∷ 49 ∷ 49 ∷ 48 ∷ 49 ∷ 48 ∷ 10 ∷ []
+-- "3 2 1 11010" and a line feed
+line-3-2-1 : acceptedLine 3 2 1 (1 ∷ 1 ∷ 0 ∷ 1 ∷ 0 ∷ [])
+    ≡ 51 ∷ 32 ∷ 50 ∷ 32 ∷ 49 ∷ 32 ∷ 49 ∷ 49 ∷ 48 ∷ 49 ∷ 48 ∷ 10 ∷ []
 unfolding decimal digits beatText
-line-3-2-2 = refl
+line-3-2-1 = refl
 
 -- "1 1 0 10" and a line feed
 line-1-1-0 : acceptedLine 1 1 0 (1 ∷ 0 ∷ []) ≡ 49 ∷ 32 ∷ 49 ∷ 32 ∷ 48 ∷ 32 ∷ 49 ∷ 48 ∷ 10 ∷ []

@@ -39,15 +39,23 @@ use Rattle.lists.specs.Listed.{
   Turned,
 }
 
--- 3 2 2 11010 [E4]
+-- 3 2 1 11010, of a record of kind 1 that holds 2 [E4]
 first : lineOf Which.Packing (12 ∷ 0 ∷ 1 ∷ 0 ∷ 3 ∷ 2 ∷ 2 ∷ 0 ∷ 0 ∷ 0 ∷ 0 ∷ 0 ∷ 0 ∷ 0 ∷ [])
-    ≡ 51 ∷ 32 ∷ 50 ∷ 32 ∷ 50 ∷ 32 ∷ 49 ∷ 49 ∷ 48 ∷ 49 ∷ 48 ∷ 10 ∷ []
+    ≡ 51 ∷ 32 ∷ 50 ∷ 32 ∷ 49 ∷ 32 ∷ 49 ∷ 49 ∷ 48 ∷ 49 ∷ 48 ∷ 10 ∷ []
 unfolding valueOf N digits decimal beatText every firstFrom ones zeros isSchedule shift found has01 movesNext next steps
+    changed
 first = refl
 
--- 3 2 3 10101 [E4]
+-- the same line, of the record of kind 3 that holds 1 [K4]
+first-listed : lineOf Which.Packing (12 ∷ 0 ∷ 3 ∷ 0 ∷ 3 ∷ 2 ∷ 1 ∷ 0 ∷ 0 ∷ 0 ∷ 0 ∷ 0 ∷ 0 ∷ 0 ∷ [])
+    ≡ 51 ∷ 32 ∷ 50 ∷ 32 ∷ 49 ∷ 32 ∷ 49 ∷ 49 ∷ 48 ∷ 49 ∷ 48 ∷ 10 ∷ []
+unfolding valueOf N digits decimal beatText every firstFrom ones zeros isSchedule shift found has01 movesNext next steps
+    changed
+first-listed = refl
+
+-- 3 2 2 10101 [E4]
 second : lineOf Which.Packing (5 ∷ 0 ∷ 2 ∷ 0 ∷ 3 ∷ 2 ∷ 168 ∷ [])
-    ≡ 51 ∷ 32 ∷ 50 ∷ 32 ∷ 51 ∷ 32 ∷ 49 ∷ 48 ∷ 49 ∷ 48 ∷ 49 ∷ 10 ∷ []
+    ≡ 51 ∷ 32 ∷ 50 ∷ 32 ∷ 50 ∷ 32 ∷ 49 ∷ 48 ∷ 49 ∷ 48 ∷ 49 ∷ 10 ∷ []
 unfolding valueOf tabulate N digits decimal beatText every firstFrom ones zeros isSchedule shift found has01 movesNext
     next steps changed
 second = refl
@@ -68,6 +76,7 @@ one-missing = refl
 fourth : lineOf Which.Packing (12 ∷ 0 ∷ 1 ∷ 0 ∷ 1 ∷ 1 ∷ 0 ∷ 0 ∷ 0 ∷ 0 ∷ 0 ∷ 0 ∷ 0 ∷ 0 ∷ [])
     ≡ 49 ∷ 32 ∷ 49 ∷ 32 ∷ 48 ∷ 32 ∷ 49 ∷ 48 ∷ 10 ∷ []
 unfolding valueOf N digits decimal beatText every firstFrom ones zeros isSchedule shift found has01 movesNext next steps
+    changed
 fourth = refl
 
 -- the empty schedule prints as -: 0 0 0 - [E4]
@@ -86,8 +95,8 @@ orders =
 
 abbrev lines : List ℕ
 lines =
-    51 ∷ 32 ∷ 50 ∷ 32 ∷ 50 ∷ 32 ∷ 49 ∷ 49 ∷ 48 ∷ 49 ∷ 48 ∷ 10 ∷
-    51 ∷ 32 ∷ 50 ∷ 32 ∷ 51 ∷ 32 ∷ 49 ∷ 48 ∷ 49 ∷ 48 ∷ 49 ∷ 10 ∷
+    51 ∷ 32 ∷ 50 ∷ 32 ∷ 49 ∷ 32 ∷ 49 ∷ 49 ∷ 48 ∷ 49 ∷ 48 ∷ 10 ∷
+    51 ∷ 32 ∷ 50 ∷ 32 ∷ 50 ∷ 32 ∷ 49 ∷ 48 ∷ 49 ∷ 48 ∷ 49 ∷ 10 ∷
     114 ∷ 101 ∷ 102 ∷ 117 ∷ 115 ∷ 101 ∷ 100 ∷ 32 ∷ 55 ∷ 32 ∷ 48 ∷ 32 ∷ 48 ∷ 10 ∷
     49 ∷ 32 ∷ 49 ∷ 32 ∷ 48 ∷ 32 ∷ 49 ∷ 48 ∷ 10 ∷ []
 
@@ -104,7 +113,7 @@ unfolding listFrom valueOf tabulate N digits decimal beatText every firstFrom on
     movesNext next steps changed
 cut-list = refl
 
--- the explanation of number 2 of (3,2), 11010: 3 3 4 1 2 3 4 [X9]
+-- the explanation of 11010, number 1 of (3,2): 3 3 4 1 2 3 4 [X9]
 explained-first : lineOf Which.Explaining (12 ∷ 0 ∷ 1 ∷ 0 ∷ 3 ∷ 2 ∷ 2 ∷ 0 ∷ 0 ∷ 0 ∷ 0 ∷ 0 ∷ 0 ∷ 0 ∷ [])
     ≡ 51 ∷ 32 ∷ 51 ∷ 32 ∷ 52 ∷ 32 ∷ 49 ∷ 32 ∷ 50 ∷ 32 ∷ 51 ∷ 32 ∷ 52 ∷ 10 ∷ []
 unfolding valueOf tabulate N digits decimal every firstFrom ones zeros isSchedule shift found has01 movesNext next steps

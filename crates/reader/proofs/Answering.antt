@@ -18,10 +18,11 @@ use Rattle.refusal.specs.declared.Verdict.{Verdict}
 use Rattle.refusal.specs.Rows.{Row, _⇒_, judge}
 use Rattle.triangle.specs.Count.{mostBeats}
 use Rattle.counts.specs.Counts.{countRows}
-use Rattle.number.specs.Number.{numberOf, formOf}
+use Rattle.number.specs.Number.{numberOf}
 use Rattle.record.specs.Bytes.{valueOf, unpacked}
-use Rattle.record.specs.Record.{long, upsAt, downsAt, bodyAt, packedRows, kindRows, readRows, layoutIn, cut}
+use Rattle.record.specs.Record.{long, upsAt, downsAt, bodyAt, formBy, packedRows, kindRows, readRows, layoutIn, cut}
 use Rattle.record.specs.declared.layout.Layout.{Layout}
+use Rattle.record.specs.declared.layout.Numbering.{Numbering}
 use Rattle.record.specs.declared.reading.Reading.{Reading}
 use Rattle.record.specs.Layout.{isUnknown}
 use Rattle.reader.specs.Answers.{told, answerBy, leftBy}
@@ -36,11 +37,8 @@ module _ (at : ℕ) (src : List ℕ) where
   abbrev held : List ℕ
   held = bodyAt at src
 
-  abbrev one : Layout
-  one = Layout.Numbered at
-
-  abbrev two : Layout
-  two = Layout.Beaten at
+  abbrev packed : Layout
+  packed = Layout.Beaten at
 
   abbrev numberedTail : List Row
   numberedTail = numberRows up down (valueOf held)
@@ -48,43 +46,49 @@ module _ (at : ℕ) (src : List ℕ) where
   abbrev beatenTail : List Row
   beatenTail = countRows up down ++ packedRows up down held
 
-  pub numbered-long : ((long src ≡ at + 8) → ⊥) → judge (kindRows one src) ≡ Verdict.Refused WrongSize
-  numbered-long n = ap (λ (b : Bool). judge ((not b ⇒ WrongSize) ∷ numberedTail)) (ne-eqb (long src) (at + 8) n)
+  module _ (by : Numbering) where
+    abbrev numbered : Layout
+    numbered = Layout.Numbered at by
 
-  pub numbered-fits : long src ≡ at + 8 → judge (kindRows one src) ≡ judge numberedTail
-  numbered-fits e = ap (λ (b : Bool). judge ((not b ⇒ WrongSize) ∷ numberedTail)) (eq-eqb (long src) (at + 8) e)
+    pub numbered-long : ((long src ≡ at + 8) → ⊥) → judge (kindRows numbered src) ≡ Verdict.Refused WrongSize
+    numbered-long n = ap (λ (b : Bool). judge ((not b ⇒ WrongSize) ∷ numberedTail)) (ne-eqb (long src) (at + 8) n)
 
-  pub beaten-long : long src < at → judge (kindRows two src) ≡ Verdict.Refused WrongSize
+    pub numbered-fits : long src ≡ at + 8 → judge (kindRows numbered src) ≡ judge numberedTail
+    numbered-fits e = ap (λ (b : Bool). judge ((not b ⇒ WrongSize) ∷ numberedTail)) (eq-eqb (long src) (at + 8) e)
+
+  pub beaten-long : long src < at → judge (kindRows packed src) ≡ Verdict.Refused WrongSize
   beaten-long h = ap (λ (b : Bool). judge ((b ⇒ WrongSize) ∷ beatenTail)) (lt-ltb (long src) at h)
 
-  pub beaten-fits : at ≤ long src → judge (kindRows two src) ≡ judge beatenTail
+  pub beaten-fits : at ≤ long src → judge (kindRows packed src) ≡ judge beatenTail
   beaten-fits h = ap (λ (b : Bool). judge ((b ⇒ WrongSize) ∷ beatenTail)) (le-ltb (long src) at h)
 
   module _ {t s : ℕ} (et : t ≡ up) (es : s ≡ down) where
-    module _ {n l : ℕ} (en : n ≡ valueOf held) (el : l ≡ long src) (e : long src ≡ at + 8) where
-      pub numbered-answer : {r : Reading} → r ≡ told t s n l (judge (numberRows t s n))
-          → r ≡ answerBy one src (judge (kindRows one src))
+    module _ (by : Numbering) {n l : ℕ} (en : n ≡ valueOf held) (el : l ≡ long src) (e : long src ≡ at + 8) where
+      pub numbered-answer : {r : Reading}
+          → r ≡ told t s (numberOf t s (formBy by t s n)) l (judge (numberRows t s n))
+          → r ≡ answerBy Numbering.Catalogue (numbered by) src (judge (kindRows (numbered by) src))
       numbered-answer q =
-          q ∙ rw (et, es, en, el) (ap (told up down (valueOf held) (long src)) (sym (numbered-fits e)))
+          let number = numberOf up down (formBy by up down (valueOf held)) in
+          q ∙ rw (et, es, en, el) (ap (told up down number (long src)) (sym (numbered-fits by e)))
 
       pub numbered-left : {x : List ℕ} (out : List ℕ)
-          → x ≡ left (judge (numberRows t s n)) (formOf t s n ++ drop (t + s) out) out
-          → x ≡ leftBy one src (judge (kindRows one src)) out
+          → x ≡ left (judge (numberRows t s n)) (formBy by t s n ++ drop (t + s) out) out
+          → x ≡ leftBy (numbered by) src (judge (kindRows (numbered by) src)) out
       numbered-left out q =
-          let after = formOf up down (valueOf held) ++ drop (up + down) out in
-          q ∙ rw (et, es, en) (ap (λ (v : Verdict). left v after out) (sym (numbered-fits e)))
+          let after = formBy by up down (valueOf held) ++ drop (up + down) out in
+          q ∙ rw (et, es, en) (ap (λ (v : Verdict). left v after out) (sym (numbered-fits by e)))
 
     module _ {p : List ℕ} {l : ℕ} (ep : p ≡ held) (el : l ≡ long src) (h : at ≤ long src) where
       pub beaten-answer : {r : Reading}
           → r ≡ told t s (numberOf t s (unpacked (t + s) p)) l (judge (countRows t s ++ packedRows t s p))
-          → r ≡ answerBy two src (judge (kindRows two src))
+          → r ≡ answerBy Numbering.Catalogue packed src (judge (kindRows packed src))
       beaten-answer q =
           let number = numberOf up down (unpacked (up + down) held) in
           q ∙ rw (et, es, ep, el) (ap (told up down number (long src)) (sym (beaten-fits h)))
 
       pub beaten-left : {x : List ℕ} (out : List ℕ)
           → x ≡ left (judge (countRows t s ++ packedRows t s p)) (unpacked (t + s) p ++ drop (t + s) out) out
-          → x ≡ leftBy two src (judge (kindRows two src)) out
+          → x ≡ leftBy packed src (judge (kindRows packed src)) out
       beaten-left out q =
           let after = unpacked (up + down) held ++ drop (up + down) out in
           q ∙ rw (et, es, ep) (ap (λ (v : Verdict). left v after out) (sym (beaten-fits h)))

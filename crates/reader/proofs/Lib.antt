@@ -1,9 +1,11 @@
 pub mod Verdicts
 pub mod Heads
+pub mod Numberings
 pub mod Answering
 pub mod Unpacking
 pub mod Parts
 pub mod Meaning
 pub mod Sixes
 pub mod Theorems
+pub mod Earlier
 pub mod Cases

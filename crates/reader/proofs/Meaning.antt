@@ -1,7 +1,9 @@
--- What an accepted record of each kind has, and that it means a schedule and its number.
+-- What an accepted record of each kind has, and that it means a schedule, and holds its number by the kind's numbering
+-- or its beats.
 --     numbered-facts, beaten-facts     what the rows of a layout say where they accept
 --     kind-reaches         L of an accepted record reaches past its counts
---     kind-means           an accepted record of a known kind means a schedule of allowed counts and its number
+--     Held                 what a record of a layout holds of a form
+--     kind-means           an accepted record of a known kind means a schedule of allowed counts, and holds it
 --     read-means           the same of an accepted slice [B7]
 -- Assumes nothing.
 use mathlib.Core.Bool.{false, true≢false}
@@ -21,16 +23,15 @@ use Rattle.counts.proofs.Sizes.{counts-allowed}
 use Rattle.schedule.specs.Schedule.{Schedule}
 use Rattle.schedule.specs.Check.{checked}
 use Rattle.schedule.proofs.Theorems.{accepted-schedule}
-use Rattle.number.specs.Number.{numberOf}
-use Rattle.number.proofs.Numbers.{form-schedule}
-use Rattle.number.proofs.Theorems.{form-number}
 use Rattle.form.proofs.Verdicts.{number-allowed}
 use Rattle.record.specs.Bytes.{valueOf, bytesFor, beatAt, unpacked, unused}
 use Rattle.record.specs.declared.layout.Layout.{Layout}
+use Rattle.record.specs.declared.layout.Numbering.{Numbering}
 use Rattle.record.specs.Layout.{countsAt, isUnknown}
 use Rattle.record.specs.Record.{long, layoutIn, upsAt, downsAt, bodyAt, packedRows, kindRows, readRows}
-use Rattle.record.specs.Record.{meant, meantNumber}
+use Rattle.record.specs.Record.{numberBy, meant}
 use Rattle.record.proofs.Packing.{length-tabulate}
+use Rattle.reader.proofs.Numberings.{form-schedule-in, form-number-in}
 use Rattle.reader.proofs.Verdicts.{hand-checked, unpacked-beats, spoiled-long, spoiled-bits, spoiled-not}
 use Rattle.reader.proofs.Answering.{numbered-long, numbered-fits, beaten-long, beaten-fits}
 use Rattle.reader.proofs.Parts.{read-facts}
@@ -45,12 +46,12 @@ module _ (at : ℕ) (src : List ℕ) where
   abbrev held : List ℕ
   held = bodyAt at src
 
-  pub numbered-facts : judge (kindRows (Layout.Numbered at) src) ≡ Verdict.Accepted
+  pub numbered-facts : (by : Numbering) → judge (kindRows (Layout.Numbered at by) src) ≡ Verdict.Accepted
       → (long src ≡ at + 8) × Allowed up down × (valueOf held < N up down)
-  numbered-facts e =
+  numbered-facts by e =
       let exact : long src ≡ at + 8 =
-      elim (ℕ-discrete (long src) (at + 8)) [ yes h ↦ h | no m ↦ both e (numbered-long at src m) ] in
-      let few = number-allowed up down (valueOf held) (sym (numbered-fits at src exact) ∙ e) in
+      elim (ℕ-discrete (long src) (at + 8)) [ yes h ↦ h | no m ↦ both e (numbered-long at src by m) ] in
+      let few = number-allowed up down (valueOf held) (sym (numbered-fits at src by exact) ∙ e) in
       (exact, (few .0, few .1), few .2)
 
   -- a record of packed beats that is accepted
@@ -96,11 +97,16 @@ module _ (at : ℕ) (src : List ℕ) where
           ∙ sym (spoiled-not up down held exact (eq-eqb (unused (up + down) held) 0 clean) beats refl)
           ∙ rows
 
+abbrev pub Held : Layout → ℕ → ℕ → List ℕ → List ℕ → Type 0
+Held (Layout.Numbered at by) t s p b = valueOf p ≡ numberBy by t s b
+Held (Layout.Beaten at) t s p b = unpacked (t + s) p ≡ b
+Held Layout.Unknown t s p b = ⊥
+
 module _ (src : List ℕ) where
   -- L of an accepted record reaches past its counts
   pub kind-reaches : (k : Layout) → isUnknown k ≡ false → judge (kindRows k src) ≡ Verdict.Accepted
       → countsAt k ≤ long src
-  kind-reaches (Layout.Numbered at) u e = omega (arith, numbered-facts at src e .0)
+  kind-reaches (Layout.Numbered at by) u e = omega (arith, numbered-facts at src by e .0)
   kind-reaches (Layout.Beaten at) u e = beaten-facts at src e .reaches
   kind-reaches Layout.Unknown u e = absurd (true≢false u)
 
@@ -109,21 +115,21 @@ module _ (src : List ℕ) where
     pub allowed : Allowed (upsAt (countsAt k) src) (downsAt (countsAt k) src)
     pub schedule : Schedule (upsAt (countsAt k) src) (downsAt (countsAt k) src)
         (meant k (upsAt (countsAt k) src) (downsAt (countsAt k) src) (bodyAt (countsAt k) src))
-    pub number : meantNumber k (upsAt (countsAt k) src) (downsAt (countsAt k) src) (bodyAt (countsAt k) src)
-        ≡ numberOf (upsAt (countsAt k) src) (downsAt (countsAt k) src)
+    pub held : Held k (upsAt (countsAt k) src) (downsAt (countsAt k) src) (bodyAt (countsAt k) src)
         (meant k (upsAt (countsAt k) src) (downsAt (countsAt k) src) (bodyAt (countsAt k) src))
 
-  kind-means : (k : Layout) → isUnknown k ≡ false → judge (kindRows k src) ≡ Verdict.Accepted → Means k
-  kind-means (Layout.Numbered at) u e =
-      let f = numbered-facts at src e in
+  pub kind-means : (k : Layout) → isUnknown k ≡ false → judge (kindRows k src) ≡ Verdict.Accepted → Means k
+  kind-means (Layout.Numbered at by) u e =
+      let f = numbered-facts at src by e in
       let n = valueOf (bodyAt at src) in
-      record { allowed = f .1; schedule = form-schedule (f .1 .1) n; number = sym (form-number (f .1 .1) n (f .2)) }
+      let schedule = form-schedule-in (f .1 .1) by n in
+      record { allowed = f .1; schedule = schedule; held = sym (form-number-in (f .1 .1) by n (f .2)) }
   kind-means (Layout.Beaten at) u e =
       let f = beaten-facts at src e in
       let t = upsAt at src in
       let s = downsAt at src in
       let beats = unpacked (t + s) (bodyAt at src) in
-      record { allowed = f .allowed; schedule = accepted-schedule t s beats (f .taken) .1; number = refl }
+      record { allowed = f .allowed; schedule = accepted-schedule t s beats (f .taken) .1; held = refl }
   kind-means Layout.Unknown u e = absurd (true≢false u)
 
   pub read-means : (room : ℕ) → judge (readRows room src) ≡ Verdict.Accepted → Means (layoutIn src)

@@ -2,8 +2,9 @@
 --     parts-of             the length, the kind, the counts and the payload of a record that was written
 --     six                  a slice of six bytes and more, by its first six
 --     unused-packed        packed beats leave no unused bit set [B1]
---     head-facts           what a slice has that passes the head's rows: room, a whole record, a known kind
---     read-facts           what an accepted slice has: that, and the rows of the kind
+--     head-facts-by, head-facts     what a slice has that passes the head's rows: room, a whole record, a known kind;
+--                          by a layout, and by that of its kind
+--     read-facts-by, read-facts     what an accepted slice has: that, and the rows of the kind
 -- Assumes nothing.
 use mathlib.Core.Bool.{false}
 use mathlib.Core.List.{List, [], _∷_, _++_, List·Memᴰ·head, List·Memᴰ·tail}
@@ -21,8 +22,10 @@ use Rattle.refusal.proofs.Rows.{judge-front, judge-back}
 use Rattle.refusal.proofs.Theorems.{accepted-none}
 use Rattle.triangle.specs.Count.{mostBeats}
 use Rattle.record.specs.Bytes.{lowFirst, valueOf, spell, bytesFor, packed, unused}
+use Rattle.record.specs.declared.layout.Layout.{Layout}
 use Rattle.record.specs.Layout.{isUnknown}
-use Rattle.record.specs.Record.{long, layoutIn, upsAt, downsAt, cut, headRows, kindRows, readRows}
+use Rattle.record.specs.Record.{long, layoutIn, upsAt, downsAt, cut, headRowsBy, kindRows, readRowsBy}
+use Rattle.record.specs.Record.{headRows, readRows}
 use Rattle.record.proofs.Packing.{getD-tabulate}
 
 module _ (l k t s : ℕ) (p rest : List ℕ) where
@@ -85,20 +88,30 @@ unused-packed b = elim (ℕ-discrete (length b % 8) 0) [ yes e ↦ none e | no m
         )
         ∙ mul-mod-right (2 ^ (8 - length b % 8)) (spell (length b % 8) c)
 
-module _ (room : ℕ) (src : List ℕ) where
-  pub head-facts : judge (headRows room src) ≡ Verdict.Accepted
-      → (mostBeats ≤ room) × (cut src ≡ false) × (2 ≤ long src) × (isUnknown (layoutIn src) ≡ false)
-  head-facts front =
-      let none = accepted-none (headRows room src) front in (
+module _ (k : Layout) (room : ℕ) (src : List ℕ) where
+  pub head-facts-by : judge (headRowsBy k room src) ≡ Verdict.Accepted
+      → (mostBeats ≤ room) × (cut src ≡ false) × (2 ≤ long src) × (isUnknown k ≡ false)
+  head-facts-by front =
+      let none = accepted-none (headRowsBy k room src) front in (
         ltb-false room mostBeats (none _ (List·Memᴰ·head refl)),
         none _ (List·Memᴰ·tail (List·Memᴰ·head refl)),
         ltb-false (long src) 2 (none _ (List·Memᴰ·tail (List·Memᴰ·tail (List·Memᴰ·head refl)))),
         none _ (List·Memᴰ·tail (List·Memᴰ·tail (List·Memᴰ·tail (List·Memᴰ·head refl)))),
       )
 
+  pub read-facts-by : judge (readRowsBy k room src) ≡ Verdict.Accepted
+      → (mostBeats ≤ room) × (cut src ≡ false) × (2 ≤ long src) × (isUnknown k ≡ false)
+      × (judge (kindRows k src) ≡ Verdict.Accepted)
+  read-facts-by e =
+      let head = head-facts-by (judge-front (headRowsBy k room src) (kindRows k src) e) in
+      (head .0, head .1, head .2, head .3, judge-back (headRowsBy k room src) (kindRows k src) e)
+
+module _ (room : ℕ) (src : List ℕ) where
+  pub head-facts : judge (headRows room src) ≡ Verdict.Accepted
+      → (mostBeats ≤ room) × (cut src ≡ false) × (2 ≤ long src) × (isUnknown (layoutIn src) ≡ false)
+  head-facts = head-facts-by (layoutIn src) room src
+
   pub read-facts : judge (readRows room src) ≡ Verdict.Accepted
       → (mostBeats ≤ room) × (cut src ≡ false) × (2 ≤ long src) × (isUnknown (layoutIn src) ≡ false)
       × (judge (kindRows (layoutIn src) src) ≡ Verdict.Accepted)
-  read-facts e =
-      let head = head-facts (judge-front (headRows room src) (kindRows (layoutIn src) src) e) in
-      (head .0, head .1, head .2, head .3, judge-back (headRows room src) (kindRows (layoutIn src) src) e)
+  read-facts = read-facts-by (layoutIn src) room src

@@ -45,8 +45,8 @@ PackedOff k src =
     Off (upsAt at src) (unpacked (upsAt at src + downsAt at src) (bodyAt at src))
 
 kind-sixes : (k : Layout) (src : List ℕ) → All (Six (PackedOff k src)) (kindRows k src)
-kind-sixes (Layout.Numbered at) src =
-    sixless-all (PackedOff (Layout.Numbered at) src) (kindRows (Layout.Numbered at) src) refl
+kind-sixes (Layout.Numbered at by) src =
+    sixless-all (PackedOff (Layout.Numbered at by) src) (kindRows (Layout.Numbered at by) src) refl
 kind-sixes (Layout.Beaten at) src =
     let t = upsAt at src in
     let s = downsAt at src in
@@ -71,9 +71,9 @@ module _ (room : ℕ) (src : List ℕ) (six : refusal (judge (readRows room src)
 
   -- in the rows of its kind only packed beats can be refused so, and L is not below the byte of the counts
   reaches : (k : Layout) → refusal (judge (kindRows k src)) ≡ 6 → countsAt k ≤ long src
-  reaches (Layout.Numbered at) six =
-      absurd (six-given (λ z. ⊥) (kindRows (Layout.Numbered at) src)
-      (sixless-all (λ z. ⊥) (kindRows (Layout.Numbered at) src) refl) six)
+  reaches (Layout.Numbered at by) six =
+      absurd (six-given (λ z. ⊥) (kindRows (Layout.Numbered at by) src)
+      (sixless-all (λ z. ⊥) (kindRows (Layout.Numbered at by) src) refl) six)
   reaches (Layout.Beaten at) six =
       let fits = (misfit (Layout.Beaten at) (long src) ⇒ WrongSize) ∷ [] in
       let t = upsAt at src in

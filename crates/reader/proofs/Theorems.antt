@@ -3,7 +3,7 @@
 --     written-read         what was written is read back: t, s, the number, the schedule, and 2 + L bytes consumed [B3]
 --     read-written         what is read is written again byte for byte [B4]
 --     one-record           within a kind a form has one record [B5]
---     kinds-agree          the records of a form in kind 1 and kind 2 read the same, but for their length [B6]
+--     kinds-agree          the records of a form in two kinds, as 1, 2 and 3, read the same, but for their length [B6]
 -- Assumes nothing.
 use mathlib.Core.Bool.{false, true≢false}
 use mathlib.Core.List.{List, [], _∷_, _++_, List·Memᴰ·head}
@@ -26,21 +26,23 @@ use Rattle.counts.proofs.Sizes.{allowed-counts}
 use Rattle.schedule.specs.Schedule.{Schedule}
 use Rattle.schedule.specs.Check.{checkRows}
 use Rattle.schedule.proofs.Theorems.{accepted-schedule, schedule-accepted}
-use Rattle.number.specs.Number.{numberOf, formOf}
-use Rattle.number.proofs.Theorems.{number-form, form-number, number-below}
+use Rattle.number.specs.Number.{numberOf}
 use Rattle.form.proofs.Verdicts.{number-taken}
 use Rattle.record.specs.Bytes.{lowFirst, valueOf, bytesFor, packed, unpacked, unused}
 use Rattle.record.specs.declared.layout.Layout.{Layout}
+use Rattle.record.specs.declared.layout.Numbering.{Numbering}
 use Rattle.record.specs.Layout.{layoutOf, countsAt, isUnknown}
+use Rattle.record.specs.Record.{numberBy, formBy, kindIn}
 use Rattle.record.specs.Record.{payload, recordOf, long, layoutIn, upsAt, downsAt, bodyAt, ups, downs, body, cut}
 use Rattle.record.specs.Record.{packedRows, kindRows, readRows, meant, meantNumber, roomRow, writeRows}
-use Rattle.record.proofs.Layouts.{counts-at-four, known-small}
+use Rattle.record.proofs.Layouts.{counts-at-four, known-small, written-known}
 use Rattle.record.proofs.Numerals.{Bytes, value-low, low-value, length-low}
 use Rattle.record.proofs.Packing.{all-beats}
 use Rattle.record.proofs.Writing.{record-size, write-kind, packed-size}
 use Rattle.record.specs.declared.reading.Reading.{Reading}
 use Rattle.reader.specs.Answers.{answerBy, leftBy, readAnswer, readLeft}
 use Rattle.record.specs.Parts as said
+use Rattle.reader.proofs.Numberings.{number-form-in, number-below-in, form-number-in}
 use Rattle.reader.proofs.Unpacking.{unpacked-packed, packed-unpacked}
 use Rattle.reader.proofs.Heads.{cut-rest, whole-long, body-size}
 use Rattle.reader.proofs.Verdicts.{hand-checked, spoiled-not}
@@ -67,35 +69,36 @@ module _ (src : List ℕ) {t s : ℕ} {b : List ℕ} (a : Allowed t s) (q : Sche
   again : unpacked (t + s) (packed b) ≡ b
   again = ap (λ (j : ℕ). unpacked j (packed b)) (sym (q .size)) ∙ unpacked-packed b (all-beats b (q .beats))
 
-  number-held : (k : Layout) → Holds k
-      → meantNumber k (upsAt (countsAt k) src) (downsAt (countsAt k) src) (bodyAt (countsAt k) src) ≡ numberOf t s b
-  number-held (Layout.Numbered at) h =
+  value-held : (at : ℕ) (by : Numbering) → Holds (Layout.Numbered at by)
+      → valueOf (bodyAt at src) ≡ numberBy by t s b
+  value-held at by h =
       ap valueOf (h .body-is)
-      ∙ value-low 8 (numberOf t s b) (omega (arith, number-below q, fits-64-bits t s (a .0)))
-  number-held (Layout.Beaten at) h =
-      ap₂ (λ (i j : ℕ). numberOf i j (unpacked (i + j) (bodyAt at src))) (h .t-is) (h .s-is)
-      ∙ ap (λ (w : List ℕ). numberOf t s (unpacked (t + s) w)) (h .body-is)
-      ∙ ap (numberOf t s) again
-  number-held Layout.Unknown h = absurd (true≢false (h .known))
+      ∙ value-low 8 (numberBy by t s b) (omega (arith, number-below-in q by, fits-64-bits t s (a .0)))
 
   beats-held : (k : Layout) → Holds k
       → meant k (upsAt (countsAt k) src) (downsAt (countsAt k) src) (bodyAt (countsAt k) src) ≡ b
-  beats-held (Layout.Numbered at) h =
-      ap₂ (λ (i j : ℕ). formOf i j (valueOf (bodyAt at src))) (h .t-is) (h .s-is)
-      ∙ ap (formOf t s) (number-held (Layout.Numbered at) h)
-      ∙ number-form q
+  beats-held (Layout.Numbered at by) h =
+      ap₂ (λ (i j : ℕ). formBy by i j (valueOf (bodyAt at src))) (h .t-is) (h .s-is)
+      ∙ ap (formBy by t s) (value-held at by h)
+      ∙ number-form-in q by
   beats-held (Layout.Beaten at) h =
       ap₂ (λ (i j : ℕ). unpacked (i + j) (bodyAt at src)) (h .t-is) (h .s-is)
       ∙ ap (unpacked (t + s)) (h .body-is)
       ∙ again
   beats-held Layout.Unknown h = absurd (true≢false (h .known))
 
+  number-held : (k : Layout) → Holds k
+      → meantNumber k (upsAt (countsAt k) src) (downsAt (countsAt k) src) (bodyAt (countsAt k) src) ≡ numberOf t s b
+  number-held k h =
+      let form = meant k (upsAt (countsAt k) src) (downsAt (countsAt k) src) (bodyAt (countsAt k) src) in
+      ap₂ (λ (i j : ℕ). numberOf i j form) (h .t-is) (h .s-is) ∙ ap (numberOf t s) (beats-held k h)
+
   rows-held : (k : Layout) → Holds k → judge (kindRows k src) ≡ Verdict.Accepted
-  rows-held (Layout.Numbered at) h =
-      numbered-fits at src (h .size ∙ ap (λ (j : ℕ). at + j) (length-low 8 (numberOf t s b)))
+  rows-held (Layout.Numbered at by) h =
+      numbered-fits at src by (h .size ∙ ap (λ (j : ℕ). at + j) (length-low 8 (numberBy by t s b)))
       ∙ ap₂ (λ (i j : ℕ). judge (numberRows i j (valueOf (bodyAt at src)))) (h .t-is) (h .s-is)
-      ∙ ap (λ (n : ℕ). judge (numberRows t s n)) (number-held (Layout.Numbered at) h)
-      ∙ number-taken t s (numberOf t s b) (allowed-counts t s a) (number-below q)
+      ∙ ap (λ (n : ℕ). judge (numberRows t s n)) (value-held at by h)
+      ∙ number-taken t s (numberBy by t s b) (allowed-counts t s a) (number-below-in q by)
   rows-held (Layout.Beaten at) h =
       beaten-fits at src (omega (arith, h .size))
       ∙ ap₂ (λ (i j : ℕ). judge (countRows i j ++ packedRows i j (bodyAt at src))) (h .t-is) (h .s-is)
@@ -107,7 +110,7 @@ module _ (src : List ℕ) {t s : ℕ} {b : List ℕ} (a : Allowed t s) (q : Sche
   rows-held Layout.Unknown h = absurd (true≢false (h .known))
 
   few : (k : Layout) → length (payload k t s b) ≤ mostBeats
-  few (Layout.Numbered at) = omega (arith, length-low 8 (numberOf t s b))
+  few (Layout.Numbered at by) = omega (arith, length-low 8 (numberBy by t s b))
   few (Layout.Beaten at) = omega (arith, exact, a .0, a .1)
   few Layout.Unknown = omega arith
 
@@ -188,7 +191,7 @@ says-all : (t s : ℕ) (b rest lent : List ℕ) → mostBeats ≤ length lent �
     × (readLeft src lent ≡ b ++ drop (t + s) lent)
 says-all t s b rest lent h {src} u =
     let v = u .accepted (length lent) h in (
-      ap (answerBy (layoutIn src) src) v ∙ rw (u .number-is, u .t-is, u .s-is, u .bytes-are),
+      ap (answerBy Numbering.Catalogue (layoutIn src) src) v ∙ rw (u .number-is, u .t-is, u .s-is, u .bytes-are),
       ap (λ (w : Verdict). leftBy (layoutIn src) src w lent) v
           ∙ ap₂ (λ (c : List ℕ) (n : ℕ). c ++ drop n lent) (u .beats-are)
           (ap₂ (λ (i j : ℕ). i + j) (u .t-is) (u .s-is)),
@@ -200,8 +203,9 @@ module _ (kind t s : ℕ) (b out rest lent : List ℕ) where
       ≡ Reading.Accepted (record { t = t; s = s; number = numberOf t s b; consumed = length (recordOf kind t s b) }))
       × (readLeft (recordOf kind t s b ++ rest) lent ≡ b ++ drop (t + s) lent)
   written-read e h =
-      let known = accepted-none (writeRows kind t s b out) e _ (List·Memᴰ·head refl) in
-      let rows = sym (write-kind kind t s b out known) ∙ e in
+      let kept = accepted-none (writeRows kind t s b out) e _ (List·Memᴰ·head refl) in
+      let known = written-known (layoutOf kind) kept in
+      let rows = sym (write-kind kind t s b out kept) ∙ e in
       let form =
       accepted-schedule t s b (judge-front (checkRows t s b) (roomRow (recordOf kind t s b) out ∷ []) rows) in
       says-all t s b rest lent h (says t s b rest (form .0) (form .1) kind known)
@@ -209,7 +213,7 @@ module _ (kind t s : ℕ) (b out rest lent : List ℕ) where
 -- a slice of bytes that is accepted
 module _ (src : List ℕ) (bytes : Bytes src) (room : ℕ) (e : judge (readRows room src) ≡ Verdict.Accepted) where
   abbrev kind : ℕ
-  kind = valueOf (take 2 (drop 2 src))
+  kind = kindIn src
 
   abbrev at : ℕ
   at = countsAt (layoutIn src)
@@ -247,11 +251,11 @@ module _ (src : List ℕ) (bytes : Bytes src) (room : ℕ) (e : judge (readRows 
           → payload k (upsAt (countsAt k) src) (downsAt (countsAt k) src)
           (meant k (upsAt (countsAt k) src) (downsAt (countsAt k) src) (bodyAt (countsAt k) src))
           ≡ bodyAt (countsAt k) src
-      by (Layout.Numbered at) u f n m =
-          let g = numbered-facts at src f in
+      by (Layout.Numbered at numbering) u f n m =
+          let g = numbered-facts at src numbering f in
           let number = valueOf (bodyAt at src) in
           let eight : 8 ≡ length (bodyAt at src) = omega (arith, n, g .0) in
-          ap (lowFirst 8) (form-number (g .1 .1) number (g .2))
+          ap (lowFirst 8) (form-number-in (g .1 .1) numbering number (g .2))
           ∙ ap (λ (j : ℕ). lowFirst j number) eight
           ∙ low-value (bodyAt at src) m
       by (Layout.Beaten at) u f n m =
@@ -300,28 +304,29 @@ module _ (src : List ℕ) (bytes : Bytes src) (room : ℕ) (e : judge (readRows 
 -- two slices of one kind that mean one form start with one record
 pub one-record : (src dst : List ℕ) → Bytes src → Bytes dst → (room : ℕ) → judge (readRows room src) ≡ Verdict.Accepted
     → judge (readRows room dst) ≡ Verdict.Accepted
-    → valueOf (take 2 (drop 2 src)) ≡ valueOf (take 2 (drop 2 dst)) → ups src ≡ ups dst → downs src ≡ downs dst
+    → kindIn src ≡ kindIn dst → ups src ≡ ups dst → downs src ≡ downs dst
     → meant (layoutIn src) (ups src) (downs src) (body src) ≡ meant (layoutIn dst) (ups dst) (downs dst) (body dst)
     → take (2 + long src) src ≡ take (2 + long dst) dst
 one-record src dst f g room e h k t s b =
     sym (read-written src f room e)
     ∙ ap (λ (j : ℕ). recordOf j (ups src) (downs src) (meant (layoutIn src) (ups src) (downs src) (body src))) k
     ∙ ap₂ (λ (i j : ℕ).
-    recordOf (valueOf (take 2 (drop 2 dst))) i j (meant (layoutIn src) (ups src) (downs src) (body src)))
+    recordOf (kindIn dst) i j (meant (layoutIn src) (ups src) (downs src) (body src)))
     t s
-    ∙ ap (recordOf (valueOf (take 2 (drop 2 dst))) (ups dst) (downs dst)) b
+    ∙ ap (recordOf (kindIn dst) (ups dst) (downs dst)) b
     ∙ read-written dst g room h
 
--- the records of a form in the two kinds mean the same
-pub kinds-agree : (t s : ℕ) (b rest lent : List ℕ) → Allowed t s → Schedule t s b → mostBeats ≤ length lent
-    → (said.t (readAnswer (recordOf 1 t s b ++ rest) lent) ≡ said.t (readAnswer (recordOf 2 t s b ++ rest) lent))
-    × (said.s (readAnswer (recordOf 1 t s b ++ rest) lent) ≡ said.s (readAnswer (recordOf 2 t s b ++ rest) lent))
-    × (said.number (readAnswer (recordOf 1 t s b ++ rest) lent)
-    ≡ said.number (readAnswer (recordOf 2 t s b ++ rest) lent))
-    × (readLeft (recordOf 1 t s b ++ rest) lent ≡ readLeft (recordOf 2 t s b ++ rest) lent)
-kinds-agree t s b rest lent a q h =
-    let one = says-all t s b rest lent h (says t s b rest a q 1 refl) in
-    let two = says-all t s b rest lent h (says t s b rest a q 2 refl) in (
+-- the records of a form in two kinds that are read mean the same
+pub kinds-agree : (i j : ℕ) → isUnknown (layoutOf i) ≡ false → isUnknown (layoutOf j) ≡ false
+    → (t s : ℕ) (b rest lent : List ℕ) → Allowed t s → Schedule t s b → mostBeats ≤ length lent
+    → (said.t (readAnswer (recordOf i t s b ++ rest) lent) ≡ said.t (readAnswer (recordOf j t s b ++ rest) lent))
+    × (said.s (readAnswer (recordOf i t s b ++ rest) lent) ≡ said.s (readAnswer (recordOf j t s b ++ rest) lent))
+    × (said.number (readAnswer (recordOf i t s b ++ rest) lent)
+    ≡ said.number (readAnswer (recordOf j t s b ++ rest) lent))
+    × (readLeft (recordOf i t s b ++ rest) lent ≡ readLeft (recordOf j t s b ++ rest) lent)
+kinds-agree i j u v t s b rest lent a q h =
+    let one = says-all t s b rest lent h (says t s b rest a q i u) in
+    let two = says-all t s b rest lent h (says t s b rest a q j v) in (
       ap said.t (one .0) ∙ sym (ap said.t (two .0)),
       ap said.s (one .0) ∙ sym (ap said.s (two .0)),
       ap said.number (one .0) ∙ sym (ap said.number (two .0)),

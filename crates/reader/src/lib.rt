@@ -20,7 +20,9 @@ pub use reads::LONGEST;
 
 // Reads the record that a slice starts with, and writes its schedule into the first t+s places of the lent
 // slice, leaving the others. Refuses 12, 9, 11 (L below 2), 10, 11 (L wrong for the kind), 1, 2, then 7, or 11
-// (kind 2's exact L and unused bits), 5, 6; a refusal changes nothing. [W2] [D1a] [B2]
+// (kind 2's exact L and unused bits), 5, 6; a refusal changes nothing. Kind 1 holds a number that counts from t ones
+// then s zeros, and is refused 7 by that number; the number answered is the catalogue's for every kind. [W2] [D1a] [B2]
+// [K4]
 pub fn read(src: &[u8], out: &mut [u8]) -> Reading
     ensures { λ r. ⌜ r ≡ readAnswer (now (src .entry)) (now (out .entry)) ⌝ }
     ensures { λ _. ⌜ now (out .exit) ≡ readLeft (now (src .entry)) (now (out .entry)) ⌝ }
@@ -59,7 +61,7 @@ pub fn read_by(rows: &[[u64; SIDE]], src: &[u8], out: &mut [u8]) -> Reading
     }
     let layout = layout::of_kind(reads::kind(src));
     match layout {
-        Layout::Numbered(at) => reads::numbered(rows, at, src, long, out),
+        Layout::Numbered(at, numbering) => reads::numbered(rows, at, numbering, src, long, out),
         Layout::Beaten(at) => reads::beaten(rows, at, src, long, out),
         Layout::Unknown => Reading::Refused(Refusal::UnknownKind, 2 + long),
     }

@@ -7,19 +7,22 @@ ghost use lib.ListN.{length, take, drop};
 ghost use Rattle.form.specs.Answers.{numberRows};
 ghost use Rattle.refusal.specs.Answer.{left};
 ghost use Rattle.refusal.specs.Rows.{judge};
-ghost use Rattle.triangle.specs.Count.{mostBeats};
+ghost use Rattle.triangle.specs.Count.{N, mostBeats};
 ghost use Rattle.lookup.specs.Lent.{Counts};
 ghost use Rattle.counts.specs.Counts.{Allowed, countRows};
-ghost use Rattle.number.specs.Number.{numberOf, formOf};
+ghost use Rattle.number.specs.Number.{numberOf};
 ghost use Rattle.record.specs.Bytes.{bytesFor, valueOf, unpacked};
 ghost use Rattle.record.specs.Bytes as beats;
-ghost use Rattle.record.specs.Record.{longest, cut, packedRows, kindRows};
+ghost use Rattle.record.specs.Record.{longest, cut, formBy, packedRows, kindRows};
 ghost use Rattle.record.specs.Record as part;
 ghost use Rattle.record.specs.declared.layout.Layout as of;
+ghost use Rattle.record.specs.declared.layout.Numbering as by;
 ghost use Rattle.reader.specs.Answers.{told, answerBy, leftBy, Whole};
+ghost use Rattle.reader.specs.Answers as said;
 use record::Order;
 use record::Reading;
 use record::layout;
+use record::layout::Numbering;
 use record::little;
 use record::pack;
 use refusal::Answer;
@@ -61,25 +64,58 @@ pub fn kind(src: &[u8]) -> u64
     little::value(&src[2..4])
 }
 
-// The form of a number, where its counts are allowed and have it.
-fn formed(rows: &[[u64; SIDE]], t: u64, s: u64, number: u64, long: u64, out: &mut [u8]) -> Reading
+// The number before a number, round the circle of all; a number that is not below all stays.
+fn before(number: u64, all: u64) -> u64
+    ensures { λ r. ⌜ r ≡ said.catalogued by.Numbering.FromTop all number ⌝ }
+{
+    if all <= number {
+        return number;
+    }
+    if number == 0 { all - 1 } else { number - 1 }
+}
+
+// The number in the catalogue of the form that has a number by a numbering; a number that no form has stays such a one.
+// [K4]
+fn catalogued(rows: &[[u64; SIDE]], numbering: Numbering, t: u64, s: u64, number: u64) -> u64
+    requires { ⌜ Counts (now rows) × Allowed t s ⌝ }
+    ensures { λ r. ⌜ r ≡ said.catalogued numbering (N t s) number ⌝ }
+{
+    match numbering {
+        Numbering::Catalogue => number,
+        Numbering::FromTop => before(number, lookup::look(rows, t, s)),
+    }
+}
+
+// The form of a number by a numbering, where its counts are allowed and have it. What is answered is its number in
+// the catalogue. [K4]
+fn formed(
+    rows: &[[u64; SIDE]],
+    numbering: Numbering,
+    t: u64,
+    s: u64,
+    number: u64,
+    long: u64,
+    out: &mut [u8],
+) -> Reading
     requires { ⌜ Counts (now rows) × (long ≤ longest) × (mostBeats ≤ length (now out)) ⌝ }
-    ensures { λ r. ⌜ r ≡ told t s number long (judge (numberRows t s number)) ⌝ }
-    ensures { λ _. ⌜ now (out .exit) ≡ left (judge (numberRows t s number)) (formOf t s number
+    ensures { λ r. ⌜ r ≡ told t s (numberOf t s (formBy numbering t s number)) long
+        (judge (numberRows t s number)) ⌝ }
+    ensures { λ _. ⌜ now (out .exit) ≡ left (judge (numberRows t s number)) (formBy numbering t s number
         ++ drop (t + s) (now (out .entry))) (now (out .entry)) ⌝ }
 {
     let allowed = counts::allowed(t, s);
     match allowed {
         Verdict::Refused(why) => Reading::Refused(why, 2 + long),
         Verdict::Accepted => {
+            let listed = catalogued(rows, numbering, t, s, number);
             let n = (t + s) as usize;
-            let verdict = form::form_by(rows, t, s, number, &mut out[..n]);
+            let verdict = form::form_by(rows, t, s, listed, &mut out[..n]);
             match verdict {
                 Verdict::Refused(why) => Reading::Refused(why, 2 + long),
                 Verdict::Accepted => Reading::Accepted(Order {
                     t,
                     s,
-                    number,
+                    number: listed,
                     consumed: 2 + long,
                 }),
             }
@@ -87,20 +123,29 @@ fn formed(rows: &[[u64; SIDE]], t: u64, s: u64, number: u64, long: u64, out: &mu
     }
 }
 
-// A record that holds the number of its form.
-pub fn numbered(rows: &[[u64; SIDE]], at: usize, src: &[u8], long: u64, out: &mut [u8]) -> Reading
+// A record that holds the number of its form, by a numbering.
+pub fn numbered(
+    rows: &[[u64; SIDE]],
+    at: usize,
+    numbering: Numbering,
+    src: &[u8],
+    long: u64,
+    out: &mut [u8],
+) -> Reading
     requires { ⌜ Counts (now rows) × (at ≤ longest) × Whole (now src) long (now out) ⌝ }
-    ensures { λ r. ⌜ r ≡ answerBy (of.Layout.Numbered at) (now (src .entry))
-        (judge (kindRows (of.Layout.Numbered at) (now (src .entry)))) ⌝ }
-    ensures { λ _. ⌜ now (out .exit) ≡ leftBy (of.Layout.Numbered at) (now (src .entry))
-        (judge (kindRows (of.Layout.Numbered at) (now (src .entry)))) (now (out .entry)) ⌝ }
+    ensures { λ r. ⌜ r ≡ answerBy by.Numbering.Catalogue (of.Layout.Numbered at numbering) (now (src .entry))
+        (judge (kindRows (of.Layout.Numbered at numbering) (now (src .entry)))) ⌝ }
+    ensures { λ _. ⌜ now (out .exit) ≡ leftBy (of.Layout.Numbered at numbering) (now (src .entry))
+        (judge (kindRows (of.Layout.Numbered at numbering) (now (src .entry)))) (now (out .entry)) ⌝ }
 {
     if long != (at + layout::NUMBER) as u64 {
         return Reading::Refused(Refusal::WrongSize, 2 + long);
     }
     let from = at + 2;
     let number = little::value(&src[from..from + layout::NUMBER]);
-    formed(rows, wide(src[at]), wide(src[at + 1]), number, long, out)
+    let t = wide(src[at]);
+    let s = wide(src[at + 1]);
+    formed(rows, numbering, t, s, number, long, out)
 }
 
 // The beats that are packed, where no unused bit is set and they are a schedule; the room takes them until
@@ -172,7 +217,7 @@ fn unpacked(
 // A record that holds the packed beats.
 pub fn beaten(rows: &[[u64; SIDE]], at: usize, src: &[u8], long: u64, out: &mut [u8]) -> Reading
     requires { ⌜ Counts (now rows) × (at ≤ longest) × Whole (now src) long (now out) ⌝ }
-    ensures { λ r. ⌜ r ≡ answerBy (of.Layout.Beaten at) (now (src .entry))
+    ensures { λ r. ⌜ r ≡ answerBy by.Numbering.Catalogue (of.Layout.Beaten at) (now (src .entry))
         (judge (kindRows (of.Layout.Beaten at) (now (src .entry)))) ⌝ }
     ensures { λ _. ⌜ now (out .exit) ≡ leftBy (of.Layout.Beaten at) (now (src .entry))
         (judge (kindRows (of.Layout.Beaten at) (now (src .entry)))) (now (out .entry)) ⌝ }

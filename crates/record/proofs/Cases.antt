@@ -36,11 +36,15 @@ use Rattle.record.specs.Bytes.{
   turned,
 }
 use Rattle.record.specs.declared.layout.Layout.{Layout}
-use Rattle.record.specs.Layout.{layoutOf, countsAt, isUnknown}
+use Rattle.record.specs.declared.layout.Numbering.{Numbering}
+use Rattle.record.specs.Layout.{layoutOf, countsAt, isUnknown, isUnwritten}
 use Rattle.record.specs.Record.{
+  numberBy,
+  formBy,
   payload,
   recordOf,
   long,
+  kindIn,
   layoutIn,
   ups,
   downs,
@@ -52,7 +56,8 @@ use Rattle.record.specs.Record.{
   misfit,
   spoiled,
 }
-use Rattle.record.specs.Record.{meant, meantNumber, packedRows, bodyRows, headRows, kindRows, readRows, eaten}
+use Rattle.record.specs.Record.{meant, meantNumber, packedRows, bodyRows, kindRows, eaten}
+use Rattle.record.specs.Record.{headRowsBy, readRowsBy, headRows, readRows}
 use Rattle.record.specs.Record.{recordIn, roomRow, knownRows, written, knownAnswer, knownLeft}
 use Rattle.record.specs.Record.{writeRows, writeAnswer, writeLeft}
 use Rattle.record.specs.declared.reading.Reading.{Reading}
@@ -140,28 +145,67 @@ none : bytesFor 0 ≡ 0
 none = refl
 
 -- the kinds
-kind-1 : layoutOf 1 ≡ Layout.Numbered 4
+kind-1 : layoutOf 1 ≡ Layout.Numbered 4 Numbering.FromTop
 kind-1 = refl
 
 kind-2 : layoutOf 2 ≡ Layout.Beaten 4
 kind-2 = refl
 
+kind-3 : layoutOf 3 ≡ Layout.Numbered 4 Numbering.Catalogue
+kind-3 = refl
+
 kind-0 : layoutOf 0 ≡ Layout.Unknown
 kind-0 = refl
+
+kind-4 : layoutOf 4 ≡ Layout.Unknown
+kind-4 = refl
 
 counts-at-4 : countsAt (layoutOf 2) ≡ 4
 counts-at-4 = refl
 
-counts-at-8 : countsAt (Layout.Numbered 8) ≡ 8
+counts-at-8 : countsAt (Layout.Numbered 8 Numbering.Catalogue) ≡ 8
 counts-at-8 = refl
 
 known-2 : isUnknown (layoutOf 2) ≡ false
 known-2 = refl
 
-unknown-3 : isUnknown (layoutOf 3) ≡ true
-unknown-3 = refl
+known-3 : isUnknown (layoutOf 3) ≡ false
+known-3 = refl
 
--- 10 of 1, 1, by its number 0 and by its beats
+unknown-4 : isUnknown (layoutOf 4) ≡ true
+unknown-4 = refl
+
+-- kinds 2 and 3 are written, and kind 1 is only read [K3]
+unwritten-1 : isUnwritten (layoutOf 1) ≡ true
+unwritten-1 = refl
+
+written-2 : isUnwritten (layoutOf 2) ≡ false
+written-2 = refl
+
+written-3 : isUnwritten (layoutOf 3) ≡ false
+written-3 = refl
+
+unwritten-4 : isUnwritten (layoutOf 4) ≡ true
+unwritten-4 = refl
+
+-- 101 is the first form of (2,1) in the catalogue, and the second from 110 on
+number-in-catalogue : numberBy Numbering.Catalogue 2 1 (1 ∷ 0 ∷ 1 ∷ []) ≡ 0
+unfolding N every firstFrom ones zeros isSchedule shift found has01 movesNext next steps changed
+number-in-catalogue = refl
+
+number-in-from-top : numberBy Numbering.FromTop 2 1 (1 ∷ 0 ∷ 1 ∷ []) ≡ 1
+unfolding N every firstFrom ones zeros isSchedule shift found has01 movesNext next steps changed
+number-in-from-top = refl
+
+form-in-catalogue : formBy Numbering.Catalogue 2 1 0 ≡ 1 ∷ 0 ∷ 1 ∷ []
+unfolding every firstFrom ones zeros isSchedule shift found has01 movesNext next steps
+form-in-catalogue = refl
+
+form-in-from-top : formBy Numbering.FromTop 2 1 0 ≡ 1 ∷ 1 ∷ 0 ∷ []
+unfolding steps
+form-in-from-top = refl
+
+-- 10 of 1, 1, by its number 0 and by its beats; 110 of 2, 1, by its number in the catalogue, 1
 payload-1 : payload (layoutOf 1) 1 1 (1 ∷ 0 ∷ []) ≡ 0 ∷ 0 ∷ 0 ∷ 0 ∷ 0 ∷ 0 ∷ 0 ∷ 0 ∷ []
 unfolding lowFirst N firstFrom steps changed
 payload-1 = refl
@@ -170,6 +214,10 @@ payload-2 : payload (layoutOf 2) 1 1 (1 ∷ 0 ∷ []) ≡ 128 ∷ []
 unfolding tabulate spell
 payload-2 = refl
 
+payload-3 : payload (layoutOf 3) 2 1 (1 ∷ 1 ∷ 0 ∷ []) ≡ 1 ∷ 0 ∷ 0 ∷ 0 ∷ 0 ∷ 0 ∷ 0 ∷ 0 ∷ []
+unfolding lowFirst N every firstFrom ones zeros isSchedule shift found has01 movesNext next steps changed
+payload-3 = refl
+
 record-1 : recordOf 1 1 1 (1 ∷ 0 ∷ []) ≡ 12 ∷ 0 ∷ 1 ∷ 0 ∷ 1 ∷ 1 ∷ 0 ∷ 0 ∷ 0 ∷ 0 ∷ 0 ∷ 0 ∷ 0 ∷ 0 ∷ []
 unfolding lowFirst N firstFrom steps changed
 record-1 = refl
@@ -177,6 +225,10 @@ record-1 = refl
 record-2 : recordOf 2 1 1 (1 ∷ 0 ∷ []) ≡ 5 ∷ 0 ∷ 2 ∷ 0 ∷ 1 ∷ 1 ∷ 128 ∷ []
 unfolding lowFirst tabulate spell
 record-2 = refl
+
+record-3 : recordOf 3 2 1 (1 ∷ 1 ∷ 0 ∷ []) ≡ 12 ∷ 0 ∷ 3 ∷ 0 ∷ 2 ∷ 1 ∷ 1 ∷ 0 ∷ 0 ∷ 0 ∷ 0 ∷ 0 ∷ 0 ∷ 0 ∷ []
+unfolding lowFirst N every firstFrom ones zeros isSchedule shift found has01 movesNext next steps changed
+record-3 = refl
 
 -- the parts of the first two records of the manual
 long-12 : long (12 ∷ 0 ∷ 1 ∷ 0 ∷ 3 ∷ 2 ∷ 2 ∷ 0 ∷ 0 ∷ 0 ∷ 0 ∷ 0 ∷ 0 ∷ 0 ∷ []) ≡ 12
@@ -187,7 +239,16 @@ pub long-5 : long (5 ∷ 0 ∷ 2 ∷ 0 ∷ 3 ∷ 2 ∷ 168 ∷ []) ≡ 5
 unfolding valueOf
 long-5 = refl
 
-kind-in-1 : layoutIn (12 ∷ 0 ∷ 1 ∷ 0 ∷ 3 ∷ 2 ∷ 2 ∷ 0 ∷ 0 ∷ 0 ∷ 0 ∷ 0 ∷ 0 ∷ 0 ∷ []) ≡ Layout.Numbered 4
+number-of-kind-1 : kindIn (12 ∷ 0 ∷ 1 ∷ 0 ∷ 3 ∷ 2 ∷ 2 ∷ 0 ∷ 0 ∷ 0 ∷ 0 ∷ 0 ∷ 0 ∷ 0 ∷ []) ≡ 1
+unfolding valueOf
+number-of-kind-1 = refl
+
+number-of-kind-258 : kindIn (5 ∷ 0 ∷ 2 ∷ 1 ∷ 3 ∷ 2 ∷ 168 ∷ []) ≡ 258
+unfolding valueOf
+number-of-kind-258 = refl
+
+kind-in-1 : layoutIn (12 ∷ 0 ∷ 1 ∷ 0 ∷ 3 ∷ 2 ∷ 2 ∷ 0 ∷ 0 ∷ 0 ∷ 0 ∷ 0 ∷ 0 ∷ 0 ∷ [])
+    ≡ Layout.Numbered 4 Numbering.FromTop
 unfolding valueOf
 kind-in-1 = refl
 
@@ -262,6 +323,12 @@ fits-12 = refl
 misfit-13 : misfit (layoutOf 1) 13 ≡ true
 misfit-13 = refl
 
+fits-12-of-3 : misfit (layoutOf 3) 12 ≡ false
+fits-12-of-3 = refl
+
+misfit-5-of-3 : misfit (layoutOf 3) 5 ≡ true
+misfit-5-of-3 = refl
+
 fits-4 : misfit (layoutOf 2) 4 ≡ false
 fits-4 = refl
 
@@ -278,7 +345,7 @@ spoiled-length = refl
 spoiled-bit : spoiled 5 (169 ∷ []) ≡ true
 spoiled-bit = refl
 
--- number 2 of 3, 2 is 11010, and 10101 has number 3
+-- kind 1 with number 2 of 3, 2 means 11010, and kind 3 with it 10101
 meant-1 : meant (layoutOf 1) 3 2 (2 ∷ 0 ∷ 0 ∷ 0 ∷ 0 ∷ 0 ∷ 0 ∷ 0 ∷ []) ≡ 1 ∷ 1 ∷ 0 ∷ 1 ∷ 0 ∷ []
 unfolding valueOf every firstFrom ones zeros isSchedule shift found has01 movesNext next steps
 meant-1 = refl
@@ -287,15 +354,32 @@ meant-2 : meant (layoutOf 2) 3 2 (168 ∷ []) ≡ 1 ∷ 0 ∷ 1 ∷ 0 ∷ 1 ∷ 
 unfolding tabulate
 meant-2 = refl
 
-meant-number-1 : meantNumber (layoutOf 1) 3 2 (2 ∷ 0 ∷ 0 ∷ 0 ∷ 0 ∷ 0 ∷ 0 ∷ 0 ∷ []) ≡ 2
-unfolding valueOf
+meant-3 : meant (layoutOf 3) 3 2 (2 ∷ 0 ∷ 0 ∷ 0 ∷ 0 ∷ 0 ∷ 0 ∷ 0 ∷ []) ≡ 1 ∷ 0 ∷ 1 ∷ 0 ∷ 1 ∷ []
+unfolding valueOf every firstFrom ones zeros isSchedule shift found has01 movesNext next steps
+meant-3 = refl
+
+-- their numbers in the catalogue: kind 1 holds another, the first and the last of them too [K4]
+meant-number-1 : meantNumber (layoutOf 1) 3 2 (2 ∷ 0 ∷ 0 ∷ 0 ∷ 0 ∷ 0 ∷ 0 ∷ 0 ∷ []) ≡ 1
+unfolding valueOf N every firstFrom ones zeros isSchedule shift found has01 movesNext next steps changed
 meant-number-1 = refl
 
-meant-number-2 : meantNumber (layoutOf 2) 3 2 (168 ∷ []) ≡ 3
+meant-number-1-first : meantNumber (layoutOf 1) 3 2 (0 ∷ 0 ∷ 0 ∷ 0 ∷ 0 ∷ 0 ∷ 0 ∷ 0 ∷ []) ≡ 4
+unfolding valueOf N every firstFrom ones zeros isSchedule shift found has01 movesNext next steps changed
+meant-number-1-first = refl
+
+meant-number-1-last : meantNumber (layoutOf 1) 3 2 (4 ∷ 0 ∷ 0 ∷ 0 ∷ 0 ∷ 0 ∷ 0 ∷ 0 ∷ []) ≡ 3
+unfolding valueOf N every firstFrom ones zeros isSchedule shift found has01 movesNext next steps changed
+meant-number-1-last = refl
+
+meant-number-3 : meantNumber (layoutOf 3) 3 2 (2 ∷ 0 ∷ 0 ∷ 0 ∷ 0 ∷ 0 ∷ 0 ∷ 0 ∷ []) ≡ 2
+unfolding valueOf N every firstFrom ones zeros isSchedule shift found has01 movesNext next steps changed
+meant-number-3 = refl
+
+meant-number-2 : meantNumber (layoutOf 2) 3 2 (168 ∷ []) ≡ 2
 unfolding tabulate N every firstFrom ones zeros isSchedule shift found has01 movesNext next steps changed
 meant-number-2 = refl
 
--- the second record of the manual, and the same cut by a byte, with L = 0, and of kind 3
+-- the second record of the manual, and the same cut by a byte, with L = 0, of kind 4, and of kind 3
 taken : judge (readRows mostBeats (5 ∷ 0 ∷ 2 ∷ 0 ∷ 3 ∷ 2 ∷ 168 ∷ [])) ≡ Verdict.Accepted
 unfolding valueOf tabulate firstFrom ones zeros
 taken = refl
@@ -314,9 +398,13 @@ unfolding valueOf
 tiny = refl
 
 -- [R13]
-other-kind : judge (readRows mostBeats (5 ∷ 0 ∷ 3 ∷ 0 ∷ 3 ∷ 2 ∷ 168 ∷ [])) ≡ Verdict.Refused UnknownKind
+other-kind : judge (readRows mostBeats (5 ∷ 0 ∷ 4 ∷ 0 ∷ 3 ∷ 2 ∷ 168 ∷ [])) ≡ Verdict.Refused UnknownKind
 unfolding valueOf
 other-kind = refl
+
+short-for-3 : judge (readRows mostBeats (5 ∷ 0 ∷ 3 ∷ 0 ∷ 3 ∷ 2 ∷ 168 ∷ [])) ≡ Verdict.Refused WrongSize
+unfolding valueOf
+short-for-3 = refl
 
 -- an unused bit set; a beat with nothing in hand, 10100; one 1 too many, 11101
 bit-set : judge (readRows mostBeats (5 ∷ 0 ∷ 2 ∷ 0 ∷ 3 ∷ 2 ∷ 169 ∷ [])) ≡ Verdict.Refused WrongSize
@@ -336,6 +424,11 @@ no-number : judge (readRows mostBeats (12 ∷ 0 ∷ 1 ∷ 0 ∷ 3 ∷ 2 ∷ 5 �
     ≡ Verdict.Refused NoSuchNumber
 unfolding valueOf N
 no-number = refl
+
+no-number-3 : judge (readRows mostBeats (12 ∷ 0 ∷ 3 ∷ 0 ∷ 3 ∷ 2 ∷ 5 ∷ 0 ∷ 0 ∷ 0 ∷ 0 ∷ 0 ∷ 0 ∷ 0 ∷ []))
+    ≡ Verdict.Refused NoSuchNumber
+unfolding valueOf N
+no-number-3 = refl
 
 -- 63 places are too few, whatever is there
 no-room : judge (readRows 63 []) ≡ Verdict.Refused NoRoom
@@ -364,9 +457,9 @@ unfolding valueOf
 body-at-4 = refl
 
 -- 10 in each layout
-in-numbered : recordIn (Layout.Numbered 4) 1 1 1 (1 ∷ 0 ∷ [])
-    ≡ 12 ∷ 0 ∷ 1 ∷ 0 ∷ 1 ∷ 1 ∷ 0 ∷ 0 ∷ 0 ∷ 0 ∷ 0 ∷ 0 ∷ 0 ∷ 0 ∷ []
-unfolding lowFirst N firstFrom steps changed
+in-numbered : recordIn (Layout.Numbered 4 Numbering.Catalogue) 3 1 1 (1 ∷ 0 ∷ [])
+    ≡ 12 ∷ 0 ∷ 3 ∷ 0 ∷ 1 ∷ 1 ∷ 0 ∷ 0 ∷ 0 ∷ 0 ∷ 0 ∷ 0 ∷ 0 ∷ 0 ∷ []
+unfolding lowFirst N every firstFrom ones zeros isSchedule shift found has01 movesNext next steps changed
 in-numbered = refl
 
 in-beaten : recordIn (Layout.Beaten 4) 2 1 1 (1 ∷ 0 ∷ []) ≡ 5 ∷ 0 ∷ 2 ∷ 0 ∷ 1 ∷ 1 ∷ 128 ∷ []
@@ -410,12 +503,20 @@ known-leaves-lent : knownLeft 1 1 (1 ∷ 0 ∷ []) (1 ∷ 2 ∷ []) (7 ∷ []) �
 unfolding ones zeros firstFrom
 known-leaves-lent = refl
 
--- 10 as a record of kind 2, which has 7 bytes, and as one of no kind
+-- 10 as a record of kind 2, which has 7 bytes, and of kind 3, which has 14; of kind 1 and of no kind it is refused 10
 write-taken : judge (writeRows 2 1 1 (1 ∷ 0 ∷ []) (replicate 8 7)) ≡ Verdict.Accepted
 unfolding lowFirst tabulate spell ones zeros firstFrom
 write-taken = refl
 
-write-other : judge (writeRows 3 1 1 (1 ∷ 0 ∷ []) (replicate 8 7)) ≡ Verdict.Refused UnknownKind
+write-taken-3 : judge (writeRows 3 1 1 (1 ∷ 0 ∷ []) (replicate 14 7)) ≡ Verdict.Accepted
+unfolding lowFirst N every firstFrom ones zeros isSchedule shift found has01 movesNext next steps changed
+write-taken-3 = refl
+
+-- [K3]
+write-1 : judge (writeRows 1 1 1 (1 ∷ 0 ∷ []) (replicate 14 7)) ≡ Verdict.Refused UnknownKind
+write-1 = refl
+
+write-other : judge (writeRows 4 1 1 (1 ∷ 0 ∷ []) (replicate 8 7)) ≡ Verdict.Refused UnknownKind
 write-other = refl
 
 write-answers-7 : writeAnswer 2 1 1 (1 ∷ 0 ∷ []) (replicate 8 7) ≡ Answer.Value 7
@@ -430,10 +531,10 @@ write-leaves-record : writeLeft 2 1 1 (1 ∷ 0 ∷ []) (replicate 8 7) ≡ 5 ∷
 unfolding lowFirst tabulate spell ones zeros firstFrom
 write-leaves-record = refl
 
-write-leaves-lent : writeLeft 3 1 1 (1 ∷ 0 ∷ []) (7 ∷ []) ≡ 7 ∷ []
+write-leaves-lent : writeLeft 1 1 1 (1 ∷ 0 ∷ []) (7 ∷ []) ≡ 7 ∷ []
 write-leaves-lent = refl
 
--- the ends of the order of reading: 10101 packed, and with an unused bit; number 4 of (3,2), and 5
+-- the ends of the order of reading: 10101 packed, and with an unused bit; number 4 of (3,2), and 5, by both numberings
 packed-taken : judge (packedRows 3 2 (168 ∷ [])) ≡ Verdict.Accepted
 unfolding tabulate ones zeros firstFrom
 packed-taken = refl
@@ -448,6 +549,33 @@ body-taken = refl
 body-beyond : judge (bodyRows (layoutOf 1) 3 2 (5 ∷ [])) ≡ Verdict.Refused NoSuchNumber
 unfolding valueOf N
 body-beyond = refl
+
+body-taken-3 : judge (bodyRows (layoutOf 3) 3 2 (4 ∷ [])) ≡ Verdict.Accepted
+unfolding valueOf N
+body-taken-3 = refl
+
+body-beyond-3 : judge (bodyRows (layoutOf 3) 3 2 (5 ∷ [])) ≡ Verdict.Refused NoSuchNumber
+unfolding valueOf N
+body-beyond-3 = refl
+
+-- by a layout, whatever the kind says: kind 2, taken for one of no layout
+head-by-taken : judge (headRowsBy (layoutOf 2) mostBeats (5 ∷ 0 ∷ 2 ∷ 0 ∷ 3 ∷ 2 ∷ 168 ∷ [])) ≡ Verdict.Accepted
+unfolding valueOf
+head-by-taken = refl
+
+head-by-unknown : judge (headRowsBy Layout.Unknown mostBeats (5 ∷ 0 ∷ 2 ∷ 0 ∷ 3 ∷ 2 ∷ 168 ∷ []))
+    ≡ Verdict.Refused UnknownKind
+unfolding valueOf
+head-by-unknown = refl
+
+by-taken : judge (readRowsBy (layoutOf 2) mostBeats (5 ∷ 0 ∷ 2 ∷ 0 ∷ 3 ∷ 2 ∷ 168 ∷ [])) ≡ Verdict.Accepted
+unfolding valueOf tabulate firstFrom ones zeros
+by-taken = refl
+
+by-unknown : judge (readRowsBy Layout.Unknown mostBeats (5 ∷ 0 ∷ 2 ∷ 0 ∷ 3 ∷ 2 ∷ 168 ∷ []))
+    ≡ Verdict.Refused UnknownKind
+unfolding valueOf
+by-unknown = refl
 
 head-taken : judge (headRows mostBeats (5 ∷ 0 ∷ 2 ∷ 0 ∷ 3 ∷ 2 ∷ 168 ∷ [])) ≡ Verdict.Accepted
 unfolding valueOf
@@ -467,7 +595,7 @@ kind-misfit = refl
 
 -- the parts of an answer: of the manual's first record, and of one that is refused 7
 abbrev accepts : Reading
-accepts = Reading.Accepted (record { t = 3; s = 2; number = 2; consumed = 14 })
+accepts = Reading.Accepted (record { t = 3; s = 2; number = 1; consumed = 14 })
 
 abbrev refuses : Reading
 refuses = Reading.Refused NoSuchNumber 13
@@ -490,7 +618,7 @@ s-accepts = refl
 s-refuses : said.s refuses ≡ 0
 s-refuses = refl
 
-number-accepts : said.number accepts ≡ 2
+number-accepts : said.number accepts ≡ 1
 number-accepts = refl
 
 number-refuses : said.number refuses ≡ 0

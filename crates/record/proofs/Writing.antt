@@ -2,7 +2,7 @@
 --     headed               the six bytes in front of the payload, stored one by one
 --     numbered-size, beaten-size         how long a record of each kind is
 --     record-made          head and payload make the record, and what was after stays
---     write-refused, write-short, write-taken     the verdict on writing a known kind, from the check's
+--     write-refused, write-short, write-taken     the verdict on writing a kind that is written, from the check's
 --     write-unknown, write-kind          the kind's row in front of the others
 -- Assumes nothing.
 use mathlib.Core.Bool.{Bool, true, false}
@@ -19,11 +19,11 @@ use Rattle.refusal.specs.declared.Verdict.{Verdict}
 use Rattle.refusal.specs.Rows.{Row, _⇒_, judge}
 use Rattle.refusal.proofs.Rows.{judge-refused, judge-accepted}
 use Rattle.schedule.specs.Check.{checkRows, checked}
-use Rattle.number.specs.Number.{numberOf}
 use Rattle.record.specs.Bytes.{lowFirst, spell, bytesFor, packed}
 use Rattle.record.specs.declared.layout.Layout.{Layout}
-use Rattle.record.specs.Layout.{layoutOf, countsAt, isUnknown}
-use Rattle.record.specs.Record.{payload, recordIn, recordOf, roomRow, knownRows, writeRows}
+use Rattle.record.specs.declared.layout.Numbering.{Numbering}
+use Rattle.record.specs.Layout.{layoutOf, countsAt, isUnwritten}
+use Rattle.record.specs.Record.{numberBy, payload, recordIn, recordOf, roomRow, knownRows, writeRows}
 use Rattle.record.proofs.Numerals.{length-low}
 use Rattle.record.proofs.Packing.{length-tabulate}
 
@@ -94,18 +94,20 @@ module _ (kind t s : ℕ) (b out : List ℕ) where
   abbrev known : List Row
   known = knownRows t s b (recordOf kind t s b) out
 
-  pub write-unknown : isUnknown (layoutOf kind) ≡ true → judge (writeRows kind t s b out) ≡ Verdict.Refused UnknownKind
+  pub write-unknown : isUnwritten (layoutOf kind) ≡ true
+      → judge (writeRows kind t s b out) ≡ Verdict.Refused UnknownKind
   write-unknown e = ap (λ (x : Bool). judge ((x ⇒ UnknownKind) ∷ known)) e
 
-  pub write-kind : isUnknown (layoutOf kind) ≡ false → judge (writeRows kind t s b out) ≡ judge known
+  pub write-kind : isUnwritten (layoutOf kind) ≡ false → judge (writeRows kind t s b out) ≡ judge known
   write-kind e = ap (λ (x : Bool). judge ((x ⇒ UnknownKind) ∷ known)) e
 
 pub packed-size : (b : List ℕ) → length (packed b) ≡ bytesFor (length b)
 packed-size b = length-tabulate (bytesFor (length b)) (λ j. spell 8 (drop (8 * j) b))
 
 module _ (at kind t s : ℕ) (b : List ℕ) where
-  pub numbered-size : length (recordIn (Layout.Numbered at) kind t s b) ≡ 14
-  numbered-size = record-size (Layout.Numbered at) kind t s b ∙ ap (λ (j : ℕ). 6 + j) (length-low 8 (numberOf t s b))
+  pub numbered-size : (by : Numbering) → length (recordIn (Layout.Numbered at by) kind t s b) ≡ 14
+  numbered-size by =
+      record-size (Layout.Numbered at by) kind t s b ∙ ap (λ (j : ℕ). 6 + j) (length-low 8 (numberBy by t s b))
 
   pub beaten-size : length (recordIn (Layout.Beaten at) kind t s b) ≡ 6 + bytesFor (length b)
   beaten-size = record-size (Layout.Beaten at) kind t s b ∙ ap (λ (j : ℕ). 6 + j) (packed-size b)

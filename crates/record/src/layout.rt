@@ -3,10 +3,16 @@
 ghost use mathlib.Core.Path.{_≡_};
 ghost use Rattle.record.specs.Layout.{layoutOf, countsAt};
 
+// By which numbering a record holds a number: the catalogue's, or the one that counts from t ones then s zeros.
+pub enum Numbering {
+    Catalogue,
+    FromTop,
+}
+
 // What a record holds after its counts, and the byte at which the counts stand: t there, s after it.
 pub enum Layout {
-    // the number of the form
-    Numbered(usize),
+    // the number of the form, by a numbering
+    Numbered(usize, Numbering),
     // its beats, packed
     Beaten(usize),
     // no layout: the kind is unknown
@@ -19,7 +25,7 @@ impl Layout {
         ensures { λ r. ⌜ r ≡ countsAt self ⌝ }
     {
         match self {
-            Layout::Numbered(at) => at,
+            Layout::Numbered(at, _) => at,
             Layout::Beaten(at) => at,
             Layout::Unknown => 0,
         }
@@ -29,13 +35,14 @@ impl Layout {
 // The bytes of a number.
 pub const NUMBER: usize = 8;
 
-// The layout of a kind.
+// The layout of a kind. Kind 3 is laid out like kind 1, and holds the number by another numbering. [K3]
 pub fn of_kind(kind: u64) -> Layout
     ensures { λ r. ⌜ r ≡ layoutOf kind ⌝ }
 {
     match kind {
-        1 => Layout::Numbered(4),
+        1 => Layout::Numbered(4, Numbering::FromTop),
         2 => Layout::Beaten(4),
+        3 => Layout::Numbered(4, Numbering::Catalogue),
         _ => Layout::Unknown,
     }
 }

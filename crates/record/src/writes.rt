@@ -1,10 +1,11 @@
-// Writing a record of each layout. The contracts cite specs/Record. The counts of every kind stand at byte 4, right
-// after L and the kind, and so nothing else is to be written before them.
+// Writing a record of each layout that is written. The contracts cite specs/Record. The counts of every kind stand at
+// byte 4, right after L and the kind, and so nothing else is to be written before them.
 ghost use mathlib.Core.List.{_∷_, _++_};
 ghost use mathlib.Core.Path.{_≡_};
 ghost use Prim.Native.Nat.{_≤_, _<_};
 ghost use lib.ListN.{length, drop};
 ghost use Rattle.record.specs.declared.layout.Layout as of;
+ghost use Rattle.record.specs.declared.layout.Numbering as by;
 ghost use Rattle.record.specs.Bytes.{lowFirst};
 ghost use Rattle.record.specs.Record.{recordIn, knownAnswer, knownLeft};
 use crate::layout;
@@ -27,13 +28,13 @@ fn head(long: u64, kind: u64, at: usize, t: u64, s: u64, out: &mut [u8])
     out[at + 1] = s as u8;
 }
 
-// A record that holds the number of the form.
+// A record that holds the number of the form in the catalogue. [K3]
 pub fn numbered(kind: u64, at: usize, t: u64, s: u64, beats: &[u8], out: &mut [u8]) -> Answer
     requires { ⌜ at ≡ 4 ⌝ }
     ensures { λ r. ⌜ r ≡ knownAnswer t s (now (beats .entry))
-        (recordIn (of.Layout.Numbered at) kind t s (now (beats .entry))) (now (out .entry)) ⌝ }
+        (recordIn (of.Layout.Numbered at by.Numbering.Catalogue) kind t s (now (beats .entry))) (now (out .entry)) ⌝ }
     ensures { λ _. ⌜ now (out .exit) ≡ knownLeft t s (now (beats .entry))
-        (recordIn (of.Layout.Numbered at) kind t s (now (beats .entry))) (now (out .entry)) ⌝ }
+        (recordIn (of.Layout.Numbered at by.Numbering.Catalogue) kind t s (now (beats .entry))) (now (out .entry)) ⌝ }
 {
     let answer = number::number(t, s, beats);
     match answer {

@@ -56,8 +56,8 @@ hand-goes t b = (λ so. (λ l. refl, refl), (λ so. (λ l. refl, refl), tt))
 
 kind-goes : (k : Layout) (src : List ℕ) → isUnknown k ≡ false → {why : Refusal}
     → judge (kindRows k src) ≡ Verdict.Refused why → Goes why
-kind-goes (Layout.Numbered at) src u e =
-    given Goes (kindRows (Layout.Numbered at) src)
+kind-goes (Layout.Numbered at by) src u e =
+    given Goes (kindRows (Layout.Numbered at by) src)
     (λ so. (λ l. refl, refl), (λ so. (λ l. refl, refl), (λ so. (λ l. refl, refl), (λ so. (λ l. refl, refl), tt)))) e
 kind-goes (Layout.Beaten at) src u e =
     let hand = hand-goes (upsAt at src) (unpacked (upsAt at src + downsAt at src) (bodyAt at src)) in
@@ -135,16 +135,16 @@ module _ (src more : List ℕ) where
         ∙ le-ltb (length both) (2 + long both) (omega (arith, whole, longer, same-long))
 
     rows-alone : (k : Layout) → isUnknown k ≡ false → judge (kindRows k both) ≡ judge (kindRows k src)
-    rows-alone (Layout.Numbered at) u = elim (ℕ-discrete (long src) (at + 8)) [
+    rows-alone (Layout.Numbered at by) u = elim (ℕ-discrete (long src) (at + 8)) [
       | yes e ↦
           let inside : at ≤ long src = omega (arith, e) in
-          numbered-fits at both (same-long ∙ e)
+          numbered-fits at both by (same-long ∙ e)
           ∙ ap₂ (λ (t s : ℕ). judge (numberRows t s (valueOf (bodyAt at both)))) (ups-same at inside (whole .1))
           (downs-same at inside (whole .1))
           ∙ ap (λ (l : List ℕ). judge (numberRows (upsAt at src) (downsAt at src) (valueOf l)))
           (body-same at inside (whole .1))
-          ∙ sym (numbered-fits at src e)
-      | no n ↦ numbered-long at both (λ e. n (sym same-long ∙ e)) ∙ sym (numbered-long at src n)
+          ∙ sym (numbered-fits at src by e)
+      | no n ↦ numbered-long at both by (λ e. n (sym same-long ∙ e)) ∙ sym (numbered-long at src by n)
     ]
     rows-alone (Layout.Beaten at) u = elim (decLt (long src) at) [
       | yes l ↦ beaten-long at both (omega (arith, l, same-long)) ∙ sym (beaten-long at src l)

@@ -11,6 +11,7 @@ use Rattle.refusal.specs.declared.Verdict.{Verdict}
 use Rattle.refusal.specs.Rows.{judge}
 use Rattle.triangle.specs.Count.{mostBeats}
 use Rattle.record.specs.declared.layout.Layout.{Layout}
+use Rattle.record.specs.declared.layout.Numbering.{Numbering}
 use Rattle.record.specs.Layout.{layoutOf, countsAt, isUnknown}
 use Rattle.record.specs.Record.{longest, layoutIn, long, cut, kindRows, readRows}
 use Rattle.record.proofs.Layouts.{counts-at-four}
@@ -81,10 +82,12 @@ module _ (c : tie.After-of-kind) where
 
   -- what the reader of the kind did is what reading says
   answered : (k : Layout) → layoutIn (src first) ≡ k → isUnknown k ≡ false
-      → answerBy k (src first) (judge (kindRows k (src first))) ≡ readAnswer (src first) (out first)
+      → answerBy Numbering.Catalogue k (src first) (judge (kindRows k (src first))) ≡ readAnswer (src first) (out first)
   answered k e u =
-      ap (answerBy k (src first)) (sym (by-kind k e u))
-      ∙ ap (λ (j : Layout). answerBy j (src first) (judge (readRows (length (out first)) (src first)))) (sym e)
+      ap (answerBy Numbering.Catalogue k (src first)) (sym (by-kind k e u))
+      ∙ ap (λ (j : Layout).
+      answerBy Numbering.Catalogue j (src first) (judge (readRows (length (out first)) (src first))))
+      (sym e)
 
   remains : (k : Layout) → layoutIn (src first) ≡ k → isUnknown k ≡ false
       → leftBy k (src first) (judge (kindRows k (src first))) (out first) ≡ readLeft (src first) (out first)
@@ -112,8 +115,8 @@ returns-2 c =
 long-requires : tie.Need-long-requires
 long-requires c κs = let here = whole-long (src (c .before .before)) (uncut c) in omega (arith, here)
 
-add-t14 : tie.Need-add-t14
-add-t14 c = search needs
+add-t15 : tie.Need-add-t15
+add-t15 c = search needs
 
 returns-3 : tie.Need-returns-3
 returns-3 c =
@@ -155,8 +158,8 @@ beaten-requires c κs =
 enum-told : tie.Need-enum-told
 enum-told c = search needs
 
-add-t22 : tie.Need-add-t22
-add-t22 c =
+add-t23 : tie.Need-add-t23
+add-t23 c =
     let here = c .before .before in
     omega (arith, longs here .long .ensures, whole-long (src (first here)) (uncut (longs here .before)))
 
@@ -205,7 +208,7 @@ read-by-spec =
     is-cut-requires
     returns-2
     long-requires
-    add-t14
+    add-t15
     returns-3
     kind-requires
     of-kind-requires
@@ -214,7 +217,7 @@ read-by-spec =
     enum-known-layout-2
     beaten-requires
     enum-told
-    add-t22
+    add-t23
     same-length
     returns-4
     same-length-2

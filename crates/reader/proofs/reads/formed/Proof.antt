@@ -1,7 +1,7 @@
--- `reads::formed` meets its contract: a refusal is that of the counts or of the number, and leaves what was lent; else
--- the form is in its place. Assumes nothing.
+-- `reads::formed` meets its contract: a refusal is that of the counts or of the number, which is judged as it is held,
+-- and leaves what was lent; else the form is in its place. Assumes nothing.
 use mathlib.Core.List.{List, _++_}
-use mathlib.Core.Path.{_≡_, _∙_, ap, sym}
+use mathlib.Core.Path.{_≡_, refl, _∙_, ap, sym}
 use Prim.Native.Nat.{ℕ, _+_, _≤_}
 use native.Mathlib.Omega.{arith}
 use lib.ListN.{length, take, drop}
@@ -11,10 +11,14 @@ use Rattle.refusal.proofs.Left.{left-part, left-refused}
 use Rattle.refusal.specs.Answer.{left}
 use Rattle.refusal.specs.declared.Verdict.{Verdict}
 use Rattle.refusal.specs.Rows.{judge}
-use Rattle.triangle.specs.Count.{largest, mostBeats}
+use Rattle.triangle.specs.Count.{N, largest, mostBeats}
 use Rattle.counts.proofs.Sizes.{counts-allowed}
-use Rattle.number.specs.Number.{formOf}
+use Rattle.number.specs.Number.{numberOf, formOf}
 use Rattle.form.proofs.Verdicts.{number-refused}
+use Rattle.record.specs.declared.layout.Numbering.{Numbering}
+use Rattle.record.specs.Record.{formBy}
+use Rattle.reader.specs.Answers.{told, catalogued}
+use Rattle.reader.proofs.Numberings.{held-rows, held-told, held-left}
 use Rattle.reader.proofs.Verdicts.{late-counts, late-number, told-refused, told-accepted, form-number}
 use borrow.Author.Needs.{needs}
 use Rattle.reader.proofs.reads.formed.Statement.{statement}
@@ -31,8 +35,14 @@ module _ (c : tie.After-enum-told) where
   abbrev s : ℕ
   s = start .args .s
 
+  abbrev numbering : Numbering
+  numbering = start .args .numbering
+
   abbrev number : ℕ
   number = start .args .number
+
+  abbrev form : List ℕ
+  form = formBy numbering t s number
 
   abbrev out : List ℕ
   out = start .args .out .now
@@ -45,8 +55,26 @@ module _ (c : tie.After-enum-told) where
   long : length (take (t + s) out) ≡ t + s
   long = length-take-le (t + s) out (omega (arith, few))
 
-  verdict : judge (formRows t s number (take (t + s) out)) ≡ judge (numberRows t s number)
-  verdict = form-number t s number (take (t + s) out) long
+  abbrev judged : Verdict
+  judged = judge (numberRows t s number)
+
+  -- what the functions below it make of the number in the catalogue is said of the number that is held
+  module _ (listed : ℕ) (e : listed ≡ catalogued numbering (N t s) number) where
+    verdict : judge (formRows t s listed (take (t + s) out)) ≡ judged
+    verdict =
+        form-number t s listed (take (t + s) out) long
+        ∙ ap (λ (n : ℕ). judge (numberRows t s n)) e
+        ∙ held-rows numbering t s number
+
+    said : told t s listed (start .args .long) judged ≡ told t s (numberOf t s form) (start .args .long) judged
+    said =
+        ap (λ (n : ℕ). told t s n (start .args .long) judged) e
+        ∙ held-told numbering t s number (start .args .long) judged refl
+
+    remains : left judged (formOf t s listed ++ drop (t + s) out) out ≡ left judged (form ++ drop (t + s) out) out
+    remains =
+        ap (λ (n : ℕ). left judged (formOf t s n ++ drop (t + s) out) out) e
+        ∙ held-left numbering t s number (drop (t + s) out) out judged refl
 
 allowed-requires : tie.Need-allowed-requires
 allowed-requires c κs = search needs
@@ -54,35 +82,38 @@ allowed-requires c κs = search needs
 enum-known-allowed : tie.Need-enum-known-allowed
 enum-known-allowed c = search needs
 
-add-t13 : tie.Need-add-t13
-add-t13 c = search needs
+add-t15 : tie.Need-add-t15
+add-t15 c = search needs
 
 enum-told : tie.Need-enum-told
 enum-told c = search needs
 
+catalogued-requires : tie.Need-catalogued-requires
+catalogued-requires c κs = (start c .pre .0, (few c .0, few c .1))
+
 add-n : tie.Need-add-n
-add-n c = omega (arith, few c)
+add-n c = omega (arith, few (c .before))
 
 slice-relend-prefix-form-by : tie.Need-slice-relend-prefix-form-by
-slice-relend-prefix-form-by c = omega (arith, few c)
+slice-relend-prefix-form-by c = omega (arith, few (c .before))
 
 slice-aggregate-form-by : tie.Need-slice-aggregate-form-by
-slice-aggregate-form-by c = sym (long (c .before))
+slice-aggregate-form-by c = sym (long (c .before .before))
 
 form-by-requires : tie.Need-form-by-requires
-form-by-requires c κs = start (c .before) .pre .0
+form-by-requires c κs = start (c .before .before) .pre .0
 
 enum-known-verdict : tie.Need-enum-known-verdict
 enum-known-verdict c = search needs
 
-add-t18 : tie.Need-add-t18
-add-t18 c = search needs
+add-t20 : tie.Need-add-t20
+add-t20 c = search needs
 
 enum-told-2 : tie.Need-enum-told-2
 enum-told-2 c = search needs
 
-add-t19 : tie.Need-add-t19
-add-t19 c = search needs
+add-t21 : tie.Need-add-t21
+add-t21 c = search needs
 
 returns : tie.Need-returns
 returns c =
@@ -90,7 +121,7 @@ returns c =
     let args = called .before .before .args in
     let told = sym (called .allowed .ensures) ∙ c .before .allowed2 .given .1 in
     let refused = number-refused (args .t) (args .s) (args .number) told in (
-      told-refused refused (late-counts (args .t) (args .s) told) (args .t) (args .s) (args .number) (args .long),
+      told-refused refused (late-counts (args .t) (args .s) told) (args .t) (args .s) _ (args .long),
       left-refused refused _ (args .out .now),
     )
 
@@ -99,25 +130,35 @@ same-length c = search needs
 
 -- the form is in its place, or nothing has changed
 module _ (c : tie.After-form-by) where
-  abbrev told : tie.After-enum-told
-  told = c .before .before
+  abbrev turned : tie.After-catalogued
+  turned = c .before .before
 
-  placed : c .form-by .last .1 .1 .1 .1 .0 ++ drop (t told + s told) (out told)
-      ≡ left (judge (numberRows (t told) (s told) (number told)))
-      (formOf (t told) (s told) (number told) ++ drop (t told + s told) (out told)) (out told)
+  abbrev here : tie.After-enum-told
+  here = turned .before
+
+  abbrev listed : ℕ
+  listed = turned .catalogued .result
+
+  answered : c .form-by .result ≡ judged here
+  answered = c .form-by .ensures .0 ∙ verdict here listed (turned .catalogued .ensures)
+
+  placed : c .form-by .last .1 .1 .1 .1 .0 ++ drop (t here + s here) (out here)
+      ≡ left (judged here) (form here ++ drop (t here + s here) (out here)) (out here)
   placed =
-      let n = t told + s told in
-      let form = formOf (t told) (s told) (number told) in
-      ap (λ (w : List ℕ). w ++ drop n (out told))
-      (c .form-by .ensures .1 ∙ ap (λ (v : Verdict). left v form (take n (out told))) (verdict told))
-      ∙ left-part (judge (numberRows (t told) (s told) (number told))) n form (out told)
+      let n = t here + s here in
+      let made = formOf (t here) (s here) listed in
+      ap (λ (w : List ℕ). w ++ drop n (out here))
+      (c .form-by .ensures .1
+      ∙ ap (λ (v : Verdict). left v made (take n (out here))) (verdict here listed (turned .catalogued .ensures)))
+      ∙ left-part (judged here) n made (out here)
+      ∙ remains here listed (turned .catalogued .ensures)
 
 returns-2 : tie.Need-returns-2
 returns-2 c =
     let forming = c .before .before .before .before .before in
-    let told = forming .before .before in
-    let refused = sym (verdict told) ∙ sym (forming .form-by .ensures .0) ∙ c .before .verdict .given .1 in (
-      told-refused refused (late-number (t told) (s told) (number told) refused) (t told) (s told) (number told)
+    let refused = sym (answered forming) ∙ c .before .verdict .given .1 in
+    let told = here forming in (
+      told-refused refused (late-number (t told) (s told) (number told) refused) (t told) (s told) _
           (start told .args .long),
       placed forming,
     )
@@ -128,9 +169,10 @@ same-length-2 c = search needs
 returns-3 : tie.Need-returns-3
 returns-3 c =
     let forming = c .before .before .before .before in
-    let told = forming .before .before in
-    let accepted = sym (verdict told) ∙ sym (forming .form-by .ensures .0) ∙ c .enum-told2 .given .1 in (
-      told-accepted accepted (t told) (s told) (number told) (start told .args .long),
+    let accepted = sym (answered forming) ∙ c .enum-told2 .given .1 in
+    let told = here forming in (
+      told-accepted accepted (t told) (s told) (listed forming) (start told .args .long)
+          ∙ said told (listed forming) (forming .before .before .catalogued .ensures),
       placed forming,
     )
 
@@ -140,16 +182,17 @@ formed-spec =
     (tie.spec
     allowed-requires
     enum-known-allowed
-    add-t13
+    add-t15
     enum-told
+    catalogued-requires
     add-n
     slice-relend-prefix-form-by
     slice-aggregate-form-by
     form-by-requires
     enum-known-verdict
-    add-t18
+    add-t20
     enum-told-2
-    add-t19
+    add-t21
     returns
     same-length
     returns-2

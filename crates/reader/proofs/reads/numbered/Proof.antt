@@ -42,14 +42,15 @@ module _ (c : tie.Else1) where
 add-if1 : tie.Need-add-if1
 add-if1 c = omega (arith, start c .pre .1)
 
-add-t12 : tie.Need-add-t12
-add-t12 c = omega (arith, whole (c .before) .0, whole (c .before) .1)
+add-t15 : tie.Need-add-t15
+add-t15 c = omega (arith, whole (c .before) .0, whole (c .before) .1)
 
 returns : tie.Need-returns
 returns c =
     let known = c .before in
     let args = start known .args in
-    let refused = numbered-long (args .at) (src known) (λ e. omega (arith, e, whole known, c .if1 .taken)) in
+    let refused =
+    numbered-long (args .at) (src known) (args .numbering) (λ e. omega (arith, e, whole known, c .if1 .taken)) in
     let bytes = ap (Reading.Refused WrongSize) (ap (λ (l : ℕ). 2 + l) (whole known .0)) in
     (bytes ∙ told-refused refused (λ l. refl) _ _ _ (long (src known)), left-refused refused _ (args .out .now))
 
@@ -114,10 +115,11 @@ returns-2 c =
     let number = valued .value .ensures ∙ ap (λ (j : ℕ). valueOf (take j (drop from (src known)))) eight in
     let ups = first .wide .ensures in
     let downs = second .wide2 .ensures in
+    let by = start known .args .numbering in
     let out = start known .args .out .now in (
-      numbered-answer (at test) (src known) ups downs number (whole known .0) (exact test)
+      numbered-answer (at test) (src known) ups downs by number (whole known .0) (exact test)
           (forming .formed .ensures .0),
-      numbered-left (at test) (src known) ups downs number (whole known .0) (exact test) out
+      numbered-left (at test) (src known) ups downs by number (whole known .0) (exact test) out
           (forming .formed .ensures .1),
     )
 
@@ -126,7 +128,7 @@ numbered-spec =
     tie.close
     (tie.spec
     add-if1
-    add-t12
+    add-t15
     returns
     add-from
     add-value

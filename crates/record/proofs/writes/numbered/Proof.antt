@@ -13,6 +13,7 @@ use Rattle.schedule.proofs.Theorems.{accepted-schedule}
 use Rattle.circle.proofs.Forms.{refused-so, accepted-so}
 use Rattle.number.specs.Number.{numberOf}
 use Rattle.record.specs.declared.layout.Layout.{Layout}
+use Rattle.record.specs.declared.layout.Numbering.{Numbering}
 use Rattle.record.specs.Bytes.{lowFirst}
 use Rattle.record.specs.Record.{recordIn}
 use Rattle.record.proofs.Numerals.{length-low}
@@ -21,9 +22,12 @@ use borrow.Author.Needs.{needs}
 use Rattle.record.proofs.writes.numbered.Statement.{statement}
 use Rattle.record.proofs.writes.numbered.Tie as tie
 
--- the record that is asked for
+-- the layout and the record that are asked for
+abbrev laid : tie.Start → Layout
+laid c = Layout.Numbered (c .args .at) Numbering.Catalogue
+
 abbrev made : tie.Start → List ℕ
-made c = recordIn (Layout.Numbered (c .args .at)) (c .args .kind) (c .args .t) (c .args .s) (c .args .beats .now)
+made c = recordIn (laid c) (c .args .kind) (c .args .t) (c .args .s) (c .args .beats .now)
 
 -- in the second arm the schedule is accepted, and has its number
 module _ (c : tie.After-known-told2) where
@@ -59,7 +63,7 @@ module _ (c : tie.After-known-told2) where
       (omega (arith, allowed .0), omega (arith, allowed .0, allowed .1))
 
   size : length (made start) ≡ 14
-  size = numbered-size at (start .args .kind) t s beats
+  size = numbered-size at (start .args .kind) t s beats Numbering.Catalogue
 
 number-requires : tie.Need-number-requires
 number-requires c κs = search needs
@@ -140,7 +144,7 @@ returns-3 c =
     ∙ ap (λ (j : ℕ). lowFirst j (here .before .answer2 .given .0 .0)) eight
     ∙ ap (lowFirst 8) (answered here .1) in
     accepted-so accepted (omega (arith, size here, start here .pre))
-    (record-made (Layout.Numbered (at here)) (start here .args .kind) (t here) (s here) (beats here) (from + 8 - 2) from
+    (record-made (laid (start here)) (start here .args .kind) (t here) (s here) (beats here) (from + 8 - 2) from
     n (out here) x
     (spelling .spell .last .1 .0) (heading .head .ensures) body (omega (arith, long)) (omega (arith, start here .pre))
     (omega (arith, long)))
