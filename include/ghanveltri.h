@@ -4,8 +4,9 @@
  *
  * A schedule of counts t, s is t + s bytes, its beats: t of them are 1 (a task is taken up), s are 0 (one is
  * set down), and none sets down with nothing in hand. The schedules of one pair of counts, its forms, stand
- * on a circle, each one step from the last. A form's number is how many steps lead to it from t ones and
- * then s zeros, the form of number 0. Beats and places are counted from 0.
+ * on a circle, each one step from the last. A form's number is how many steps lead to it from the form after
+ * t ones and s zeros, the form of number 0; t ones and then s zeros have the last number. Beats and places are
+ * counted from 0.
  *
  * Rules for every function:
  * - It takes every number and every content of the lent bytes, and ends. It does its work, or refuses by one
@@ -38,9 +39,18 @@
 extern "C" {
 #endif
 
-/* The version of this header. A new major version may ask callers to change. */
-#define GV_VERSION_MAJOR 1
-#define GV_VERSION_MINOR 4
+/*
+ * The version of this header. A new major version may ask callers to change. Version 2 differs from version 1 in
+ * the numbers of forms, and in the kinds of order records:
+ * - A number is one less, round the circle: the number n of version 1 is (n + N - 1) % N here, N being
+ *   gv_count(t, s). Keys that are stored by number are to be moved once.
+ * - Order records of kind 1 need no change: they are read as they were meant, and listed with the new number.
+ *   Programs that write records, by record::write of the library, write kind 3 in place of kind 1.
+ * - A program that links the shared library of version 1 is not given version 2 by the loader, because the soname
+ *   has the major version. It is to be built again. [K7]
+ */
+#define GV_VERSION_MAJOR 2
+#define GV_VERSION_MINOR 0
 #define GV_VERSION_PATCH 0
 #define GV_VERSION (GV_VERSION_MAJOR * 1000000 + GV_VERSION_MINOR * 1000 + GV_VERSION_PATCH)
 
@@ -67,7 +77,7 @@ extern "C" {
 #define GV_NO_SUCH_NUMBER 7    /* the number is not below the count of forms */
 #define GV_NO_SUCH_TABLES 8    /* no schedule has these tree tables */
 #define GV_CUT_SHORT 9         /* a record is cut short, or says that it is longer than any */
-#define GV_UNKNOWN_KIND 10     /* a record is of an unknown kind */
+#define GV_UNKNOWN_KIND 10     /* a record is of an unknown kind, or of one that is not written */
 #define GV_WRONG_SIZE 11       /* a record's length is wrong for its kind, or its unused bits are not 0 */
 #define GV_NO_ROOM 12          /* not enough room is lent, or a sheet is too short */
 #define GV_RUN_TOO_LONG 13     /* the steps are above GV_MAX_STEPS */
@@ -120,8 +130,8 @@ uint64_t gv_count(uint64_t t, uint64_t s);
  * Which number has this form?
  * gv_number_refusal, gv_number_place and gv_number_surplus answer what gv_check_refusal, gv_check_place and
  * gv_check_surplus answer.
- * gv_number answers the number, which is below gv_count(t, s), and 0 after a refusal. The form of t ones and
- * then s zeros has number 0 too, so ask for the refusal where there may be one.
+ * gv_number answers the number, which is below gv_count(t, s), and 0 after a refusal. The form after t ones and
+ * s zeros has number 0 too, so ask for the refusal where there may be one.
  * In: t, s, beats. Writes nothing. [M1] [M2] [M3] [D2e] [D2f] [Q5]
  */
 uint64_t gv_number_refusal(uint64_t t, uint64_t s, const uint8_t *beats, size_t length);

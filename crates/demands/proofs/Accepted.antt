@@ -35,7 +35,7 @@ use Rattle.tree.proofs.Theorems.{tree-accepts}
 use Rattle.tree_back.specs.Back.{Untreed, found, none, unfit}
 use Rattle.record.specs.declared.layout.Layout.{Layout}
 use Rattle.record.specs.Bytes.{bytesFor, valueOf}
-use Rattle.record.specs.Layout.{layoutOf, countsAt, isUnknown}
+use Rattle.record.specs.Layout.{layoutOf, countsAt, isUnwritten}
 use Rattle.record.specs.Record.{recordOf, roomRow, writeRows, knownRows, kindRows, long, upsAt, downsAt, bodyAt}
 use Rattle.reader.proofs.Heads.{whole-long, body-size}
 use Rattle.reader.proofs.Verdicts.{told-verdict}
@@ -121,7 +121,7 @@ run-checked t s b k e = judge-front (checkRows t s b) ((ltb mostSteps k ⇒ RunT
 write-checked : (kind t s : ℕ) (b out : List ℕ) → judge (writeRows kind t s b out) ≡ Verdict.Accepted
     → checked t s b ≡ Verdict.Accepted
 write-checked kind t s b out e =
-    let known = (isUnknown (layoutOf kind) ⇒ UnknownKind) ∷ [] in
+    let known = (isUnwritten (layoutOf kind) ⇒ UnknownKind) ∷ [] in
     let bytes = recordOf kind t s b in
     judge-front (checkRows t s b) (roomRow bytes out ∷ []) (judge-back known (knownRows t s b bytes out) e)
 
@@ -230,7 +230,7 @@ call-refused c m x (no-form {t} {s} {n} {out} h) g =
     omega (arith, number-allowed t s n (form-allowed t s n out (sym (g .0 .0)) .0) .2)
 call-refused c m x (no-form-on-sheet {t} {s} {n} {sheet} {column} h) g =
     omega (arith, number-allowed t s n (sheet-number t s n sheet column (sym (g .0 .0))) .2)
-call-refused c m x (no-form-in-record {src} {out} {at} k h) g =
+call-refused c m x (no-form-in-record {src} {out} {at} {by} k h) g =
     let rows = read-facts (length out) src (sym (g .0 .0 ∙ told-verdict _ _ _ _ _)) .4 in
     let above : N (upsAt at src) (downsAt at src) ≤ valueOf (bodyAt at src) =
     subst (λ (j : Layout). N (upsAt (countsAt j) src) (downsAt (countsAt j) src) ≤ valueOf (bodyAt (countsAt j) src)) k
@@ -238,7 +238,7 @@ call-refused c m x (no-form-in-record {src} {out} {at} k h) g =
     omega (
       arith,
       above,
-      numbered-facts at src (subst (λ (j : Layout). judge (kindRows j src) ≡ Verdict.Accepted) k rows) .2,
+      numbered-facts at src by (subst (λ (j : Layout). judge (kindRows j src) ≡ Verdict.Accepted) k rows) .2,
     )
 call-refused c m x (sheet-short {t} {s} {n} {sheet} {column} h) g =
     let row = ltb (length sheet) (column + t + s) ⇒ NoRoom in
@@ -250,7 +250,7 @@ call-refused c m x (places-few {src} {out} h) g =
 call-refused c m x (room-short {kind} {t} {s} {b} {out} h) g =
     let bytes = recordOf kind t s b in
     let row = roomRow bytes out in
-    let known = (isUnknown (layoutOf kind) ⇒ UnknownKind) ∷ [] in
+    let known = (isUnwritten (layoutOf kind) ⇒ UnknownKind) ∷ [] in
     let rows = judge-back known (knownRows t s b bytes out) (taken _ _ (g .0 .0)) in
     let last = judge-back (checkRows t s b) (row ∷ []) rows in
     omega (
@@ -259,9 +259,9 @@ call-refused c m x (room-short {kind} {t} {s} {b} {out} h) g =
     )
 call-refused c m x (size-tiny {src} {out} h) g =
     omega (arith, read-facts (length out) src (sym (g .0 .0 ∙ told-verdict _ _ _ _ _)) .2)
-call-refused c m x (size-numbered {src} {out} {at} k d) g =
+call-refused c m x (size-numbered {src} {out} {at} {by} k d) g =
     let rows = read-facts (length out) src (sym (g .0 .0 ∙ told-verdict _ _ _ _ _)) .4 in
-    d (numbered-facts at src (subst (λ (j : Layout). judge (kindRows j src) ≡ Verdict.Accepted) k rows) .0)
+    d (numbered-facts at src by (subst (λ (j : Layout). judge (kindRows j src) ≡ Verdict.Accepted) k rows) .0)
 call-refused c m x (size-beaten {src} {out} {at} k d) g =
     let facts = read-facts (length out) src (sym (g .0 .0 ∙ told-verdict _ _ _ _ _)) in
     let fit = beaten-facts at src (subst (λ (j : Layout). judge (kindRows j src) ≡ Verdict.Accepted) k (facts .4)) in

@@ -89,22 +89,23 @@ changing-3 : Changing (1 ∷ 1 ∷ 0 ∷ []) (3 ∷ []) → ⊥
 unfolding every firstFrom ones zeros isSchedule shift found has01 movesNext next changed
 changing-3 p = omega (arith, p .0)
 
--- 110 has the number 0 and 101 the number 1; the numbers do not begin at 101
-numbering-0 : Numbering 2 1 0 ((1 ∷ 1 ∷ 0 ∷ []) ∷ (1 ∷ 0 ∷ 1 ∷ []) ∷ [])
+-- 101 has the number 0 and 110 the number 1; the numbers do not begin at 110
+numbering-0 : Numbering 2 1 0 ((1 ∷ 0 ∷ 1 ∷ []) ∷ (1 ∷ 1 ∷ 0 ∷ []) ∷ [])
 unfolding N every firstFrom ones zeros isSchedule shift found has01 movesNext next steps changed
 numbering-0 = ((refl, refl), ((refl, refl), tt))
 
-numbering-101 : Numbering 2 1 0 ((1 ∷ 0 ∷ 1 ∷ []) ∷ []) → ⊥
+numbering-110 : Numbering 2 1 0 ((1 ∷ 1 ∷ 0 ∷ []) ∷ []) → ⊥
 unfolding N every firstFrom ones zeros isSchedule shift found has01 movesNext next steps changed
-numbering-101 p = omega (arith, p .0 .0)
+numbering-110 p = omega (arith, p .0 .0)
 
 -- of each kind an example that does not hold
 not-counts : Holds (counts 5 3 27) → ⊥
 unfolding N
 not-counts p = omega (arith, p)
 
-not-follows : Holds (follows 2 1 ((1 ∷ 1 ∷ 0 ∷ []) ∷ (1 ∷ 1 ∷ 0 ∷ []) ∷ [])) → ⊥
-not-follows = not-in-order
+not-follows : Holds (follows 2 1 ((1 ∷ 1 ∷ 0 ∷ []) ∷ [])) → ⊥
+unfolding firstFrom zeros shift found has01 next
+not-follows p = let clash : _≡_ {A = ℕ} 0 1 = ap (λ (l : List ℕ). getD l 1 0) (p .0) in omega arith
 
 not-changes : Holds (changes 1 1 (2 ∷ [])) → ⊥
 unfolding every firstFrom ones zeros isSchedule shift found has01 movesNext next changed
@@ -114,8 +115,8 @@ not-rounds : Holds (rounds 3 2 10) → ⊥
 unfolding N every firstFrom ones zeros isSchedule shift found has01 movesNext next steps changed worked
 not-rounds p = omega (arith, p)
 
-not-numbers : Holds (numbers 2 1 ((1 ∷ 0 ∷ 1 ∷ []) ∷ [])) → ⊥
-not-numbers = numbering-101
+not-numbers : Holds (numbers 2 1 ((1 ∷ 1 ∷ 0 ∷ []) ∷ [])) → ⊥
+not-numbers = numbering-110
 
 not-links : Holds (links (1 ∷ 0 ∷ 0 ∷ []) (0 ∷ []) (0 ∷ []) (0 ∷ [])) → ⊥
 not-links p = omega (arith, has-closed p .size)
@@ -192,9 +193,9 @@ wrong-sheet = sheet-short {t = 3} {s = 2} {sheet = 0 ∷ 0 ∷ 0 ∷ 0 ∷ []} {
 wrong-places : Wrong (read [] (replicate 63 0))
 wrong-places = places-few {out = replicate 63 0} (omega arith)
 
-wrong-room : Wrong (write 1 1 0 (1 ∷ []) (replicate 13 0))
+wrong-room : Wrong (write 3 1 0 (1 ∷ []) (replicate 13 0))
 unfolding lowFirst
-wrong-room = room-short {kind = 1} {t = 1} {s = 0} {b = 1 ∷ []} {out = replicate 13 0} (omega arith)
+wrong-room = room-short {kind = 3} {t = 1} {s = 0} {b = 1 ∷ []} {out = replicate 13 0} (omega arith)
 
 wrong-size : Wrong (read (13 ∷ 0 ∷ 1 ∷ 0 ∷ []) [])
 unfolding valueOf

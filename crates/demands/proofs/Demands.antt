@@ -30,10 +30,11 @@ use Rattle.circle.specs.Answers.{mostSteps, runRows, runLeft}
 use Rattle.circle.specs.Walk.{worked}
 use Rattle.circle.proofs.Forms.{run-taken}
 use Rattle.circle.proofs.Theorems.{circle, circle-start-last, step-changes, round-changes}
-use Rattle.number.specs.Number.{Fewest, numberOf, formOf}
+use Rattle.number.specs.Number.{Fewest, start, numberOf, formOf}
+use Rattle.number.specs.Groups.{S}
 use Rattle.number.specs.Answers.{numberAnswer}
 use Rattle.number.proofs.Numbers.{form-schedule}
-use Rattle.number.proofs.Theorems.{number-fewest, number-below}
+use Rattle.number.proofs.Theorems.{number-fewest, number-below, S-number}
 use Rattle.form.proofs.Verdicts.{form-allowed}
 use Rattle.form.proofs.Agreement.{form-accepted, asked-numbered, numbered-asked, walked-asked}
 use Rattle.demands.specs.Calls.{number, form, run, Gives}
@@ -86,7 +87,10 @@ module _ (t s : ℕ) (a : Allowed t s) where
         number-given = λ b p. (numberOf t s b, (says _ _ (accepts _ (schedule-accepted t s b a p) _), refl));
         number-fewest = λ b n g.
             let said = number-meant b n g in
-            subst (Fewest t s b) (sym (said .1)) (number-fewest (said .0));
+            subst (Fewest (start t s) b) (sym (said .1)) (number-fewest (said .0));
+        number-listed = λ b n g.
+            let said = number-meant b n g in
+            ap (λ (m : ℕ). getD (S t s) m []) (said .1) ∙ S-number (said .0);
         form-given = λ n out h long. (
           formOf t s n,
           form-schedule (a .1) n,

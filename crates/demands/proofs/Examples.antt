@@ -38,7 +38,7 @@ computed =
     refl and
     refl and
     refl and
-    (refl and refl and refl and refl and refl and tt) and
+    (refl and refl and refl and refl and refl and refl and tt) and
     (refl and refl and refl and tt) and
     refl and
     (refl and refl and tt) and

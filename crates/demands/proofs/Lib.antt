@@ -7,8 +7,10 @@ pub mod Backwards
 pub mod Near
 pub mod Surplus
 pub mod Explaining
+pub mod Catalogue
 pub mod Cases
 pub mod Shams
 pub mod ShamsBack
 pub mod ShamsExplain
+pub mod ShamsCatalogue
 pub mod Handed

@@ -2,12 +2,12 @@
 -- contract gives, in the words of `Gives` and by computing it. A refused edit of docs/SHAMS.md shows that the written
 -- proof does not fit the wrong code; a theorem here, that no proof can: what meets the contract does not answer so.
 -- What is not the sham's own is left open: any verdict, any numbers, any content of what was lent. Those of the calls
--- back are in ShamsBack.antt.
+-- back are in ShamsBack.antt, and what goes by another numbering is in ShamsCatalogue.antt.
 --     never     a refusal is not an acceptance
 --     Refuses everything [P3]: no refusal fits a call that has to be accepted.
 --     count-refusing, check-refusing, next-refusing, changed-refusing, run-refusing, run-changed-refusing [P3]
 --     number-refusing, form-refusing, form-on-sheet-refusing, tree-refusing, schedule-of-tree-refusing [P3]
---     read-refusing, read-beaten-refusing, write-refusing, write-beaten-refusing [P3]
+--     read-refusing, read-from-top-refusing, read-beaten-refusing, write-refusing, write-beaten-refusing [P3]
 --     Answers one fixed number [P5]: none fits both of two calls.
 --     count-fixed, next-fixed, changed-fixed, run-fixed, run-changed-fixed, number-fixed, read-fixed, write-fixed [P5]
 --     Leaves one fixed form, record or table [P6d]: none fits both of two calls.
@@ -44,11 +44,11 @@ use Rattle.record.specs.Bytes.{lowFirst, valueOf, tabulate}
 use Rattle.demands.specs.Calls.{count, check, next, changed, run, run-changed, number, form, form-on-sheet, Gives}
 use Rattle.demands.specs.Calls.{tree, schedule-of-tree, read, write}
 
--- the first three forms of (3,2), the two of (2,2), what is lent to be written into, and the record of a form of (3,2)
-abbrev form-11100 : List ℕ
+-- forms of (3,2), the two of (2,2), what is lent to be written into, and a record of (3,2) that holds a number
+abbrev pub form-11100 : List ℕ
 form-11100 = 1 ∷ 1 ∷ 1 ∷ 0 ∷ 0 ∷ []
 
-abbrev form-10110 : List ℕ
+abbrev pub form-10110 : List ℕ
 form-10110 = 1 ∷ 0 ∷ 1 ∷ 1 ∷ 0 ∷ []
 
 abbrev form-11010 : List ℕ
@@ -60,11 +60,11 @@ form-1100 = 1 ∷ 1 ∷ 0 ∷ 0 ∷ []
 abbrev form-1010 : List ℕ
 form-1010 = 1 ∷ 0 ∷ 1 ∷ 0 ∷ []
 
-abbrev room : ℕ → List ℕ
+abbrev pub room : ℕ → List ℕ
 room n = replicate n 7
 
-abbrev record-of : ℕ → List ℕ
-record-of n = 12 ∷ 0 ∷ 1 ∷ 0 ∷ 3 ∷ 2 ∷ n ∷ 0 ∷ 0 ∷ 0 ∷ 0 ∷ 0 ∷ 0 ∷ 0 ∷ []
+abbrev pub record-of : ℕ → ℕ → List ℕ
+record-of kind n = 12 ∷ 0 ∷ kind ∷ 0 ∷ 3 ∷ 2 ∷ n ∷ 0 ∷ 0 ∷ 0 ∷ 0 ∷ 0 ∷ 0 ∷ 0 ∷ []
 
 -- the tables of 1100 and of 1010, there and back
 has-1100 : Has 2 form-1100 (2 ∷ 0 ∷ []) (0 ∷ 0 ∷ []) (0 ∷ 1 ∷ [])
@@ -138,16 +138,20 @@ module _ (why : Refusal) (m : List ℕ) (x : List (List ℕ)) where
       Gives (schedule-of-tree 2 (2 ∷ 0 ∷ []) (0 ∷ 0 ∷ []) (0 ∷ 1 ∷ []) (room 4)) (Verdict.Refused why) m x → ⊥
   schedule-of-tree-refusing g = never (untreed-one (g .1) untreed-1100 .0)
 
-  pub read-refusing : Gives (read (record-of 2) (room mostBeats)) (Verdict.Refused why) m x → ⊥
+  pub read-refusing : Gives (read (record-of 3 2) (room mostBeats)) (Verdict.Refused why) m x → ⊥
   unfolding N valueOf
   read-refusing g = never (g .0 .0)
+
+  pub read-from-top-refusing : Gives (read (record-of 1 2) (room mostBeats)) (Verdict.Refused why) m x → ⊥
+  unfolding N valueOf
+  read-from-top-refusing g = never (g .0 .0)
 
   pub read-beaten-refusing : Gives (read (5 ∷ 0 ∷ 2 ∷ 0 ∷ 3 ∷ 2 ∷ 168 ∷ []) (room mostBeats)) (Verdict.Refused why) m x
       → ⊥
   unfolding firstFrom ones zeros valueOf tabulate
   read-beaten-refusing g = never (g .0 .0)
 
-  pub write-refusing : Gives (write 1 3 2 form-11100 (room 14)) (Verdict.Refused why) m x → ⊥
+  pub write-refusing : Gives (write 3 3 2 form-11100 (room 14)) (Verdict.Refused why) m x → ⊥
   unfolding firstFrom ones zeros lowFirst
   write-refusing g = never (g .0 .0)
 
@@ -180,15 +184,15 @@ module _ (v w : Verdict) (n : ℕ) (x y : List (List ℕ)) where
 
   pub number-fixed : Gives (number 3 2 form-11100) v (n ∷ []) x → Gives (number 3 2 form-10110) w (n ∷ []) y → ⊥
   unfolding N every firstFrom ones zeros isSchedule shift found has01 movesNext rule.next walk.changed steps
-  number-fixed g h = let z : _≡_ {A = ℕ} 0 1 = cc (g .0 .1, h .0 .1) in omega arith
+  number-fixed g h = let z : _≡_ {A = ℕ} 4 0 = cc (g .0 .1, h .0 .1) in omega arith
 
-  pub read-fixed : (t s c t′ s′ c′ : ℕ) → Gives (read (record-of 2) (room mostBeats)) v (t ∷ s ∷ n ∷ c ∷ []) x
-      → Gives (read (record-of 3) (room mostBeats)) w (t′ ∷ s′ ∷ n ∷ c′ ∷ []) y → ⊥
-  unfolding N valueOf
+  pub read-fixed : (t s c t′ s′ c′ : ℕ) → Gives (read (record-of 3 2) (room mostBeats)) v (t ∷ s ∷ n ∷ c ∷ []) x
+      → Gives (read (record-of 3 3) (room mostBeats)) w (t′ ∷ s′ ∷ n ∷ c′ ∷ []) y → ⊥
+  unfolding N valueOf every firstFrom ones zeros isSchedule shift found has01 movesNext rule.next walk.changed steps
   read-fixed t s c t′ s′ c′ g h = let z : _≡_ {A = ℕ} 2 3 = cc (g .0 .1, h .0 .1) in omega arith
 
   pub write-fixed :
-      Gives (write 1 3 2 form-11100 (room 14)) v (n ∷ []) x → Gives (write 2 3 2 form-11100 (room 14)) w (n ∷ []) y → ⊥
+      Gives (write 3 3 2 form-11100 (room 14)) v (n ∷ []) x → Gives (write 2 3 2 form-11100 (room 14)) w (n ∷ []) y → ⊥
   unfolding firstFrom ones zeros lowFirst tabulate
   write-fixed g h = let z : _≡_ {A = ℕ} 14 7 = cc (g .0 .1, h .0 .1) in omega arith
 
@@ -204,12 +208,12 @@ module _ (v w : Verdict) (m k l : List ℕ) where
 
   pub form-fixed : Gives (form 3 2 0 (room 5)) v m (l ∷ []) → Gives (form 3 2 1 (room 5)) w k (l ∷ []) → ⊥
   unfolding N every firstFrom ones zeros isSchedule shift found has01 movesNext rule.next steps
-  form-fixed g h = let z : _≡_ {A = ℕ} 1 0 = cc (g .1, h .1) in omega arith
+  form-fixed g h = let z : _≡_ {A = ℕ} 0 1 = cc (g .1, h .1) in omega arith
 
   pub form-on-sheet-fixed :
       Gives (form-on-sheet 3 2 0 (room 7) 1) v m (l ∷ []) → Gives (form-on-sheet 3 2 1 (room 7) 1) w k (l ∷ []) → ⊥
   unfolding N every firstFrom ones zeros isSchedule shift found has01 movesNext rule.next steps
-  form-on-sheet-fixed g h = let z : _≡_ {A = ℕ} 1 0 = cc (g .1, h .1) in omega arith
+  form-on-sheet-fixed g h = let z : _≡_ {A = ℕ} 0 1 = cc (g .1, h .1) in omega arith
 
   pub tree-fixed : (r p b c : List ℕ) → Gives (tree 2 form-1100 (room 2) (room 2) (room 2)) v m (b ∷ l ∷ r ∷ p ∷ [])
       → Gives (tree 2 form-1010 (room 2) (room 2) (room 2)) w k (c ∷ l ∷ r ∷ p ∷ []) → ⊥
@@ -228,15 +232,15 @@ module _ (v w : Verdict) (m k l : List ℕ) where
       let z : _≡_ {A = ℕ} 1 0 = cc (e, f, g .3, h .3) in
       omega arith
 
-  pub read-fixed-form : (b c : List ℕ) → Gives (read (record-of 0) (room mostBeats)) v m (b ∷ l ∷ [])
-      → Gives (read (record-of 1) (room mostBeats)) w k (c ∷ l ∷ []) → ⊥
+  pub read-fixed-form : (b c : List ℕ) → Gives (read (record-of 3 0) (room mostBeats)) v m (b ∷ l ∷ [])
+      → Gives (read (record-of 3 1) (room mostBeats)) w k (c ∷ l ∷ []) → ⊥
   unfolding N valueOf every firstFrom ones zeros isSchedule shift found has01 movesNext rule.next steps
-  read-fixed-form b c g h = let z : _≡_ {A = ℕ} 1 0 = cc (g .1, h .1) in omega arith
+  read-fixed-form b c g h = let z : _≡_ {A = ℕ} 0 1 = cc (g .1, h .1) in omega arith
 
-  pub write-fixed-record : (b c : List ℕ) → Gives (write 1 3 2 form-11100 (room 14)) v m (b ∷ l ∷ [])
-      → Gives (write 1 3 2 form-10110 (room 14)) w k (c ∷ l ∷ []) → ⊥
+  pub write-fixed-record : (b c : List ℕ) → Gives (write 3 3 2 form-11100 (room 14)) v m (b ∷ l ∷ [])
+      → Gives (write 3 3 2 form-10110 (room 14)) w k (c ∷ l ∷ []) → ⊥
   unfolding N lowFirst every firstFrom ones zeros isSchedule shift found has01 movesNext rule.next walk.changed steps
-  write-fixed-record b c g h = let z : _≡_ {A = ℕ} 0 1 = cc (g .1, h .1) in omega arith
+  write-fixed-record b c g h = let z : _≡_ {A = ℕ} 4 0 = cc (g .1, h .1) in omega arith
 
 -- [P6a] the next form is the form that was given, and so no beat changes: after 11100 comes 10110, and two beats change
 module _ (v : Verdict) (m : List ℕ) (x : List (List ℕ)) where

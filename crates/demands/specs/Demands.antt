@@ -27,9 +27,11 @@ use Rattle.circle.specs.Step as rule
 use Rattle.circle.specs.Walk.{steps, worked, OneWay}
 use Rattle.circle.specs.Walk as walk
 use Rattle.circle.specs.Answers.{mostSteps}
-use Rattle.number.specs.Number.{Fewest}
+use Rattle.number.specs.Number.{Fewest, start}
+use Rattle.number.specs.Groups.{S}
 use Rattle.record.specs.Bytes.{valueOf, bytesFor}
 use Rattle.record.specs.declared.layout.Layout.{Layout}
+use Rattle.record.specs.declared.layout.Numbering.{Numbering}
 use Rattle.record.specs.Layout.{numberBytes}
 use Rattle.record.specs.Record.{recordOf, long, layoutIn, ups, downs, body, cut}
 use Rattle.demands.specs.Calls.{Call, count, next, run, number, form, form-on-sheet}
@@ -42,7 +44,7 @@ pub data Wrong : Call → Type 0 where
   wrong-length : {c : Call} {l : List ℕ} {n : ℕ} → Owed c l n → length l ≢ n → Wrong c
   no-form : {t s n : ℕ} {out : List ℕ} → N t s ≤ n → Wrong (form t s n out)
   no-form-on-sheet : {t s n : ℕ} {sheet : List ℕ} {column : ℕ} → N t s ≤ n → Wrong (form-on-sheet t s n sheet column)
-  no-form-in-record : {src out : List ℕ} {at : ℕ} → layoutIn src ≡ Layout.Numbered at
+  no-form-in-record : {src out : List ℕ} {at : ℕ} {by : Numbering} → layoutIn src ≡ Layout.Numbered at by
       → N (ups src) (downs src) ≤ valueOf (body src) → Wrong (read src out)
   sheet-short : {t s n : ℕ} {sheet : List ℕ} {column : ℕ} → length sheet < column + t + s
       → Wrong (form-on-sheet t s n sheet column)
@@ -50,8 +52,8 @@ pub data Wrong : Call → Type 0 where
   room-short : {kind t s : ℕ} {b out : List ℕ} → length out < length (recordOf kind t s b)
       → Wrong (write kind t s b out)
   size-tiny : {src out : List ℕ} → long src < 2 → Wrong (read src out)
-  size-numbered : {src out : List ℕ} {at : ℕ} → layoutIn src ≡ Layout.Numbered at → long src ≢ at + numberBytes
-      → Wrong (read src out)
+  size-numbered : {src out : List ℕ} {at : ℕ} {by : Numbering} → layoutIn src ≡ Layout.Numbered at by
+      → long src ≢ at + numberBytes → Wrong (read src out)
   size-beaten : {src out : List ℕ} {at : ℕ} → layoutIn src ≡ Layout.Beaten at
       → long src ≢ at + bytesFor (ups src + downs src) → Wrong (read src out)
   cut-record : {src out : List ℕ} → cut src ≡ true → Wrong (read src out)
@@ -69,14 +71,17 @@ pub record Demand1 : Type 0 where
   pub one-answer : (c : Call) (v w : Verdict) (m k : List ℕ) (x y : List (List ℕ)) → Gives c v m x → Gives c w k y
       → (v ≡ w) × (m ≡ k) × (x ≡ y)
 
--- demand 2: the step is CoolCat's; a number is the fewest steps from the form that takes all tasks up first; number and
--- form undo each other, for all counts that are allowed. And what all this is for: walking to a form and asking for it
--- by number give the same schedule
+-- demand 2: the step is CoolCat's; a number is the fewest steps from the form after the one that takes all tasks up
+-- first, and so the place in list S of source 000, from 0; number and form undo each other, for all counts that are
+-- allowed. And what all this is for: walking to a form and asking for it by number give the same schedule
 pub record Demand2 (t s : ℕ) : Type 0 where
   pub next-form : (b : List ℕ) → Schedule t s b
       → Gives (next t s b) Verdict.Accepted (walk.changed b (rule.next b) ∷ []) (rule.next b ∷ [])
   pub number-given : (b : List ℕ) → Schedule t s b → (n : ℕ) × Gives (number t s b) Verdict.Accepted (n ∷ []) (b ∷ [])
-  pub number-fewest : (b : List ℕ) (n : ℕ) → Gives (number t s b) Verdict.Accepted (n ∷ []) (b ∷ []) → Fewest t s b n
+  pub number-fewest : (b : List ℕ) (n : ℕ) → Gives (number t s b) Verdict.Accepted (n ∷ []) (b ∷ [])
+      → Fewest (start t s) b n
+  pub number-listed : (b : List ℕ) (n : ℕ) → Gives (number t s b) Verdict.Accepted (n ∷ []) (b ∷ [])
+      → getD (S t s) n [] ≡ b
   pub form-given : (n : ℕ) (out : List ℕ) → n < N t s → length out ≡ t + s
       → (b : List ℕ) × Schedule t s b × Gives (form t s n out) Verdict.Accepted [] (b ∷ [])
   pub form-number : (n : ℕ) (out b : List ℕ) → Gives (form t s n out) Verdict.Accepted [] (b ∷ [])

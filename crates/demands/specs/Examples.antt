@@ -2,7 +2,7 @@
 -- each holds. A later example is one more line of the list; one of a new kind is also one more case of Example and of
 -- Holds. Definitions only.
 --     Example      `counts t s n`: there are n forms of t, s
---                  `follows t s l`: from t ones then s zeros on, the forms stand in the order of l
+--                  `follows t s l`: from number 0 on, the forms stand in the order of l
 --                  `changes t s l`: the steps from there on change as many beats as l says
 --                  `rounds t s n`: a whole round changes n beats
 --                  `numbers t s l`: the forms of l have the numbers from 0 on, and are the forms of those numbers
@@ -14,9 +14,9 @@ use mathlib.Core.Path.{_≡_}
 use Prim.Native.Nat.{ℕ, suc}
 use lib.ListN.{length}
 use Rattle.triangle.specs.Count.{N}
-use Rattle.circle.specs.Step.{next, top}
+use Rattle.circle.specs.Step.{next}
 use Rattle.circle.specs.Walk.{changed, worked}
-use Rattle.number.specs.Number.{numberOf, formOf}
+use Rattle.number.specs.Number.{start, numberOf, formOf}
 use Rattle.tree.specs.Table.{Has}
 
 pub data Example : Type 0 where
@@ -47,34 +47,35 @@ Numbering t s n (b ∷ l) = ((numberOf t s b ≡ n) × (formOf t s n ≡ b)) × 
 
 abbrev pub Holds : Example → Type 0
 Holds (counts t s n) = N t s ≡ n
-Holds (follows t s l) = InOrder (top t s) l
-Holds (changes t s l) = Changing (top t s) l
-Holds (rounds t s n) = worked (N t s) (top t s) ≡ n
+Holds (follows t s l) = InOrder (start t s) l
+Holds (changes t s l) = Changing (start t s) l
+Holds (rounds t s n) = worked (N t s) (start t s) ≡ n
 Holds (numbers t s l) = Numbering t s 0 l
 Holds (links b l r p) = Has (length l) b l r p
 
 abbrev pub examples : List Example
 examples =
     follows 3 2 (
-    (1 ∷ 1 ∷ 1 ∷ 0 ∷ 0 ∷ []) ∷
     (1 ∷ 0 ∷ 1 ∷ 1 ∷ 0 ∷ []) ∷
     (1 ∷ 1 ∷ 0 ∷ 1 ∷ 0 ∷ []) ∷
     (1 ∷ 0 ∷ 1 ∷ 0 ∷ 1 ∷ []) ∷
     (1 ∷ 1 ∷ 0 ∷ 0 ∷ 1 ∷ []) ∷
-    (1 ∷ 1 ∷ 1 ∷ 0 ∷ 0 ∷ []) ∷ []
+    (1 ∷ 1 ∷ 1 ∷ 0 ∷ 0 ∷ []) ∷
+    (1 ∷ 0 ∷ 1 ∷ 1 ∷ 0 ∷ []) ∷ []
     ) ∷
-    changes 3 2 (2 ∷ 2 ∷ 4 ∷ 2 ∷ 2 ∷ []) ∷
+    changes 3 2 (2 ∷ 4 ∷ 2 ∷ 2 ∷ 2 ∷ []) ∷
     rounds 3 2 12 ∷
     counts 3 2 5 ∷
     counts 2 1 2 ∷
     follows 3 3 (
-    (1 ∷ 1 ∷ 1 ∷ 0 ∷ 0 ∷ 0 ∷ []) ∷
     (1 ∷ 0 ∷ 1 ∷ 1 ∷ 0 ∷ 0 ∷ []) ∷
     (1 ∷ 1 ∷ 0 ∷ 1 ∷ 0 ∷ 0 ∷ []) ∷
     (1 ∷ 0 ∷ 1 ∷ 0 ∷ 1 ∷ 0 ∷ []) ∷
-    (1 ∷ 1 ∷ 0 ∷ 0 ∷ 1 ∷ 0 ∷ []) ∷ []
+    (1 ∷ 1 ∷ 0 ∷ 0 ∷ 1 ∷ 0 ∷ []) ∷
+    (1 ∷ 1 ∷ 1 ∷ 0 ∷ 0 ∷ 0 ∷ []) ∷
+    (1 ∷ 0 ∷ 1 ∷ 1 ∷ 0 ∷ 0 ∷ []) ∷ []
     ) ∷
-    follows 2 1 ((1 ∷ 1 ∷ 0 ∷ []) ∷ (1 ∷ 0 ∷ 1 ∷ []) ∷ (1 ∷ 1 ∷ 0 ∷ []) ∷ []) ∷
+    follows 2 1 ((1 ∷ 0 ∷ 1 ∷ []) ∷ (1 ∷ 1 ∷ 0 ∷ []) ∷ (1 ∷ 0 ∷ 1 ∷ []) ∷ []) ∷
     rounds 2 1 4 ∷
     follows 1 1 ((1 ∷ 0 ∷ []) ∷ (1 ∷ 0 ∷ []) ∷ []) ∷
     changes 1 1 (0 ∷ []) ∷
@@ -83,20 +84,20 @@ examples =
     follows 0 0 ([] ∷ [] ∷ []) ∷
     changes 0 0 (0 ∷ []) ∷
     numbers 3 2 (
-    (1 ∷ 1 ∷ 1 ∷ 0 ∷ 0 ∷ []) ∷
     (1 ∷ 0 ∷ 1 ∷ 1 ∷ 0 ∷ []) ∷
     (1 ∷ 1 ∷ 0 ∷ 1 ∷ 0 ∷ []) ∷
     (1 ∷ 0 ∷ 1 ∷ 0 ∷ 1 ∷ []) ∷
-    (1 ∷ 1 ∷ 0 ∷ 0 ∷ 1 ∷ []) ∷ []
+    (1 ∷ 1 ∷ 0 ∷ 0 ∷ 1 ∷ []) ∷
+    (1 ∷ 1 ∷ 1 ∷ 0 ∷ 0 ∷ []) ∷ []
     ) ∷
     numbers 3 3 (
-    (1 ∷ 1 ∷ 1 ∷ 0 ∷ 0 ∷ 0 ∷ []) ∷
     (1 ∷ 0 ∷ 1 ∷ 1 ∷ 0 ∷ 0 ∷ []) ∷
     (1 ∷ 1 ∷ 0 ∷ 1 ∷ 0 ∷ 0 ∷ []) ∷
     (1 ∷ 0 ∷ 1 ∷ 0 ∷ 1 ∷ 0 ∷ []) ∷
-    (1 ∷ 1 ∷ 0 ∷ 0 ∷ 1 ∷ 0 ∷ []) ∷ []
+    (1 ∷ 1 ∷ 0 ∷ 0 ∷ 1 ∷ 0 ∷ []) ∷
+    (1 ∷ 1 ∷ 1 ∷ 0 ∷ 0 ∷ 0 ∷ []) ∷ []
     ) ∷
-    numbers 2 1 ((1 ∷ 1 ∷ 0 ∷ []) ∷ (1 ∷ 0 ∷ 1 ∷ []) ∷ []) ∷
+    numbers 2 1 ((1 ∷ 0 ∷ 1 ∷ []) ∷ (1 ∷ 1 ∷ 0 ∷ []) ∷ []) ∷
     numbers 1 1 ((1 ∷ 0 ∷ []) ∷ []) ∷
     numbers 4 0 ((1 ∷ 1 ∷ 1 ∷ 1 ∷ []) ∷ []) ∷
     numbers 0 0 ([] ∷ []) ∷

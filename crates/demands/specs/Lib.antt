@@ -4,3 +4,4 @@ pub mod Demands
 pub mod Backwards
 pub mod Surplus
 pub mod Explaining
+pub mod Catalogue

@@ -18,13 +18,13 @@ ghost use Rattle.reason.specs.Answers.{explained};
 ghost use Rattle.number.specs.Answers.{numberAnswer};
 use lists::Which;
 
-// The version, 1.4.0: major * 1000000 + minor * 1000 + patch.
-const VERSION: u64 = 1004000;
+// The version, 2.0.0: major * 1000000 + minor * 1000 + patch.
+const VERSION: u64 = 2000000;
 
 // The version of the library.
 #[no_mangle]
 pub extern "C" fn gv_version() -> u64
-    ensures { λ r. ⌜ r ≡ 1004000 ⌝ }
+    ensures { λ r. ⌜ r ≡ 2000000 ⌝ }
 {
     VERSION
 }
