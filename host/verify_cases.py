@@ -25,6 +25,7 @@ LARGEST = oracle.LARGEST
 PLACES = oracle.BEATS + 2  # that the programs lend to a reader, where a line does not say how many
 ROOM = 16  # and to a writer
 NO_PLACE = 2**64 - 1  # what an explanation answers where there is no place
+WRITTEN = (packing.PACKED, packing.NUMBERED)  # the kinds of records that are written
 
 
 def pairs(largest, beats=oracle.BEATS):
@@ -41,6 +42,15 @@ def spread(s):
 # The lines of each program by how they begin, of the kinds that go through all of something.
 TABLE_1 = range(9)  # the rows t of Table 1 of source 000; row t has the columns s from 0 to t
 FIGURE_2_3, WORDS = "4 4", 14  # the counts of the words of Figure 2.3 of source 001, and how many words there are
+# The forms of some counts in the order of their numbers, written down by hand.
+CATALOGUES = {
+    (3, 2): "10110 11010 10101 11001 11100",
+    (3, 3): "101100 110100 101010 110010 111000",
+    (2, 1): "101 110",
+    (1, 1): "10",
+    (4, 0): "1111",
+    (0, 0): "-",
+}
 THROUGH = {
     "cases_ground": {
         "counts": [f"of {t}" for t in range(LARGEST + 1)],
@@ -68,13 +78,13 @@ STATED = {
         "run": 20,
         "previous": 17,
         "previous_changed": 17,
-        "run_back": 26,
-        "run_back_changed": 26,
+        "run_back": 27,
+        "run_back_changed": 27,
         "explain": 33,
     },
-    "cases_number": {"number": 34, "form": 25, "sheet": 26},
+    "cases_number": {"number": 38, "form": 28, "sheet": 26},
     "cases_tree": {"tree": 69, "back": 98, "damage": 12},
-    "cases_record": {"write": 261, "read": 271, "filled": 16, "changes": 9},
+    "cases_record": {"write": 290, "read": 389, "filled": 20, "changes": 11},
 }
 EXAMPLES = {
     "cases_ground": (
@@ -97,9 +107,9 @@ EXAMPLES = {
         "explain 1 1 10",
         "explain 3 0 111",
     ),
-    "cases_number": ("form 3 2 4 5", "form 3 2 5 5"),
+    "cases_number": ("form 3 2 0 5", "form 3 2 4 5", "form 3 2 5 5", "number 3 2 10110", "number 3 2 11100"),
     "cases_tree": ("tree 6 111001001100 6 6 6", "back 1 0 0 1 2"),
-    "cases_record": (),
+    "cases_record": ("write 1 3 2 10110 16", "read (12)0103220000000 66", "read (12)0303210000000 66"),
 }
 SOURCES = {"counts": "Table 1 of source 000", "lists": "Table 1 of source 000", "order": "Figure 2.3 of source 001"}
 
@@ -149,9 +159,8 @@ def text_of(beats):
 
 def circle(t, s):
     """The forms from t ones then s zeros on, until that form comes again."""
-    top = [1] * t + [0] * s
-    forms = [top]
-    while (after := oracle.successor(t, s, forms[-1])) != top:
+    forms = [oracle.top(t, s)]
+    while (after := oracle.successor(t, s, forms[-1])) != forms[0]:
         forms.append(after)
     sure(len(forms) == oracle.forms(t, s), f"the circle of ({t}, {s}) has {len(forms)} forms")
     sure(all(oracle.is_schedule(t, s, f) for f in forms), f"the circle of ({t}, {s}) leaves the schedules")
@@ -162,6 +171,12 @@ def order(t, s):
     forms = [text_of(f) for f in circle(int(t), int(s))]
     sure(f"{t} {s}" != FIGURE_2_3 or forms == oracle.FIGURE_2_3, "Figure 2.3 of source 001 has other words")
     return " ".join(forms + forms[:1])
+
+
+def catalogue(t, s):
+    """The forms in the order of their numbers: from the form after t ones and s zeros on."""
+    first, *others = circle(t, s)
+    return [*others, first]
 
 
 def digest(forms):
@@ -290,10 +305,10 @@ def places_folded(t, s, beats):
 
 
 def explain_round(t, s):
-    """Every form, in the order of the numbers: how many explanations lead to the next form, and the digest of each and
+    """Every form, from t ones then s zeros on: how many explanations lead to the next form, and the digest of each and
     of the form that it leads to."""
     t, s = int(t), int(s)
-    forms = [oracle.form_of(t, s, n) for n in range(oracle.forms(t, s))]
+    forms = [oracle.form_from_top(t, s, n) for n in range(oracle.forms(t, s))]
     right = [told(t, s, beats) for beats in forms]
     calls = [(places_folded(t, s, beats), form_after(t, s, beats)) for beats in forms]
     return f"{len(right)} {digest(itertools.chain(*calls))}"
@@ -302,7 +317,9 @@ def explain_round(t, s):
 def both(t, s):
     """Every form by its number: the circle as it is walked, which the groups of the list give too, both ways. [E7b]"""
     t, s = int(t), int(s)
-    forms = circle(t, s)
+    forms = catalogue(t, s)
+    listed = " ".join(map(text_of, forms))
+    sure(listed == CATALOGUES.get((t, s), listed), f"the forms of ({t}, {s}) are others by hand, or in another order")
     sure(forms == [oracle.form_of(t, s, n) for n in range(len(forms))], "the circle is not the list of the groups")
     numbers = [oracle.number_of(t, s, f) for f in forms]
     sure(numbers == list(range(len(forms))), "the groups do not give the numbers of the circle")
@@ -317,13 +334,16 @@ def chosen(n):
 
 
 def ends(t, s):
-    """The last number, the refusal of the next, and the digest of some forms, each of which has its number. [E7b]"""
+    """The last number, which t ones then s zeros have, the refusal of the next, and the digest of some forms, each of
+    which has its number and is a step on from the form of the number before. [E7b]"""
     t, s = int(t), int(s)
     n = oracle.forms(t, s)
     forms = [oracle.form_of(t, s, x) for x in chosen(n)]
+    before = [oracle.form_of(t, s, (x - 1) % n) for x in chosen(n)]
     sure(all(oracle.is_schedule(t, s, f) for f in forms), "the groups have a form that is no schedule")
     sure([oracle.number_of(t, s, f) for f in forms] == chosen(n), "a form of the groups has another number")
-    return f"{n - 1} {oracle.numbered(t, s, n).refusal} {digest(forms)}"
+    sure([oracle.successor(t, s, f) for f in before] == forms, "a step does not lead to the next number")
+    return f"{oracle.number_of(t, s, oracle.top(t, s))} {oracle.numbered(t, s, n).refusal} {digest(forms)}"
 
 
 def number(t, s, text):
@@ -373,7 +393,7 @@ def tally(backs, calls):
 def trees(n):
     """Every closed schedule there and back, in the order of the numbers."""
     n = int(n)
-    forms = circle(n, n)
+    forms = catalogue(n, n)
     there = [after_tree(n, beats) for beats in forms]
     backs = [after_back(n, tables) for _, *tables, _ in there]
     sure([left for *_, left in backs] == forms, "the ways there and back do not undo each other")
@@ -410,7 +430,7 @@ def damage(text):
 
 def writing(kind, t, s, beats, room):
     """What writing into so many bytes that are 7 answers (why, and the value), and the bytes left."""
-    why = oracle.check(t, s, beats) if kind in (packing.NUMBERED, packing.PACKED) else Why(10)
+    why = oracle.check(t, s, beats) if kind in WRITTEN else Why(10)
     record = [] if why else list(packing.record(kind, t, s, beats))
     if len(record) > room:
         why, record = Why(12), []
@@ -444,22 +464,26 @@ def filled(text, length):
 
 
 def there_and_back(forms):
-    """How many records of some forms, in each kind, say the form again, and the digest of both calls of each."""
+    """How many records of some forms, in each kind, say the form again, and the digest of each call: writing, where the
+    kind is written, and reading."""
     same, calls = 0, []
-    for (t, s, beats), kind in itertools.product(forms, (packing.NUMBERED, packing.PACKED)):
-        why, size, record = writing(kind, t, s, beats, ROOM)
+    for (t, s, beats), kind in itertools.product(forms, (*WRITTEN, packing.FROM_TOP)):
+        record = packing.record(kind, t, s, beats)
+        form = (ACCEPTED, [t, s, oracle.number_of(t, s, beats), len(record)], beats)
+        if kind in WRITTEN:
+            why, size, record = writing(kind, t, s, beats, ROOM)
+            calls += [folded(why), [size], record]
         verdict, said, left = reading(record, PLACES)
-        form = (ACCEPTED, [t, s, oracle.number_of(t, s, beats), size], beats)
+        calls += [folded(verdict), said, left]
         same += (verdict, said, left[: t + s]) == form
-        calls += [folded(why), [size], record, folded(verdict), said, left]
-    sure(same == 2 * len(forms), "a record does not say its form again")
+    sure(same == 3 * len(forms), "a record does not say its form again")
     return f"{same} {digest(calls)}"
 
 
 def records(t, s):
     """Every form of two counts, in the order of the numbers."""
     t, s = int(t), int(s)
-    return there_and_back([(t, s, beats) for beats in circle(t, s)])
+    return there_and_back([(t, s, beats) for beats in catalogue(t, s)])
 
 
 def scattered(t):

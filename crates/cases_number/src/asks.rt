@@ -65,18 +65,31 @@ fn last() -> u64 {
     std::num::wrapping_sub_u64(most(), 1)
 }
 
-// The first, the fourth and the last form of 3 and 2, the forms that are alone, and the longest.
+// All forms of 3 and 2, the last of which is 3 ones then 2 zeros, and the forms that are alone.
 pub fn forms() {
     form(3, 2, 0, 5);
+    form(3, 2, 1, 5);
+    form(3, 2, 2, 5);
     form(3, 2, 3, 5);
     form(3, 2, 4, 5);
     form(1, 1, 0, 2);
     form(4, 0, 0, 4);
     form(0, 0, 0, 0);
     form(LARGEST, 0, 0, LARGEST as usize);
+}
+
+// The first two and the last two of the longest, and no more.
+pub fn longest() {
     form(LARGEST, LARGEST, 0, BEATS);
     form(LARGEST, LARGEST, 1, BEATS);
+    form(
+        LARGEST,
+        LARGEST,
+        std::num::wrapping_sub_u64(last(), 1),
+        BEATS,
+    );
     form(LARGEST, LARGEST, last(), BEATS);
+    form(LARGEST, LARGEST, most(), BEATS);
 }
 
 // The refusals of a form in their order.
@@ -89,7 +102,6 @@ pub fn form_refusals() {
     form(3, 2, 5, 5);
     form(3, 2, 18446744073709551615, 5);
     form(3, 2, 5, 4);
-    form(LARGEST, LARGEST, most(), BEATS);
     form(0, 0, 1, 0);
     form(0, 0, 1, 1);
     form(3, 2, 4, 4);

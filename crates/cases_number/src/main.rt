@@ -10,9 +10,11 @@ fn main() {
     ways::print_rows(9, true);
     ways::print_rows(triangle::LARGEST + 1, false);
     numbers::rounds();
+    numbers::largest();
     numbers::refusals();
     numbers::first_refusals();
     asks::forms();
+    asks::longest();
     asks::form_refusals();
     asks::sheets();
     asks::empty_forms();

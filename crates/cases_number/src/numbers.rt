@@ -1,4 +1,7 @@
-// The numbers of whole circles, and each refusal of a lent schedule. Each line has the input and the answer.
+// The numbers of whole circles, of both ends of the largest one, and each refusal of a lent schedule. Each line has the
+// input and the answer.
+use triangle::BEATS;
+use triangle::LARGEST;
 
 fn ask(t: u64, s: u64, beats: &[u8]) {
     show::text(b"number ");
@@ -12,20 +15,19 @@ fn ask(t: u64, s: u64, beats: &[u8]) {
     show::text(b"\n");
 }
 
-// The numbers of the forms in their order, and after the last that of the first again.
-fn ask_in_order(t: u64, s: u64, beats: &mut [u8]) {
-    let forms = counts::count(t, s).value();
+// The numbers of so many forms, each a step on from the one before.
+fn ask_in_order(t: u64, s: u64, beats: &mut [u8], forms: u64) {
     for _ in 0..forms {
         ask(t, s, beats);
         circle::next(t, s, beats);
     }
-    ask(t, s, beats);
 }
 
-// The same from t ones then s zeros, in lent beats that are 0.
+// From t ones then s zeros, in lent beats that are 0, through all forms and to that form again.
 fn ask_from_top(t: u64, s: u64, beats: &mut [u8]) {
+    let forms = counts::count(t, s).value();
     show::raise(beats, t as usize);
-    ask_in_order(t, s, beats);
+    ask_in_order(t, s, beats, std::num::wrapping_add_u64(forms, 1));
 }
 
 // The circle of t and s, for up to 16 beats.
@@ -51,9 +53,22 @@ pub fn rounds() {
     round(0, 0);
 }
 
+// The largest counts: from the last form but one over the last, t ones then s zeros, to the first two.
+pub fn largest() {
+    let forms = counts::count(LARGEST, LARGEST).value();
+    let mut beats = [0u8; BEATS];
+    form::form(
+        LARGEST,
+        LARGEST,
+        std::num::wrapping_sub_u64(forms, 2),
+        &mut beats,
+    );
+    ask_in_order(LARGEST, LARGEST, &mut beats, 4);
+}
+
 // Each refusal of a lent schedule.
 pub fn refusals() {
-    ask(triangle::LARGEST + 1, 0, &[1, 1]);
+    ask(LARGEST + 1, 0, &[1, 1]);
     ask(2, 3, &[1, 1, 0, 0, 0]);
     ask(3, 2, &[1, 1, 0, 1]);
     ask(3, 2, &[1, 1, 0, 2, 0]);

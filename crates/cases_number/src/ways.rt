@@ -1,18 +1,41 @@
-// The form of a number and the number of that form: for t up to 8 over every number, and for every t
-// over the first two, the middle one, the last two and some scattered between.
+// The form of a number, the number of that form, and the step to it from the form before it: for t up to 8 over every
+// number, and for every t over the first two, the middle one, the last two and some scattered between.
 use triangle::BEATS;
 use triangle::LARGEST;
+
+// Whether beats have a number.
+fn has(t: u64, s: u64, number: u64, beats: &[u8]) -> bool {
+    let answer = number::number(t, s, beats);
+    if answer.verdict().refusal() != 0 {
+        return false;
+    }
+    answer.value() == number
+}
 
 // Writes the form of a number, and says whether it has that number.
 fn returns(t: u64, s: u64, number: u64, beats: &mut [u8]) -> bool {
     if form::form(t, s, number, beats).refusal() != 0 {
         return false;
     }
-    let again = number::number(t, s, beats);
-    if again.verdict().refusal() != 0 {
+    has(t, s, number, beats)
+}
+
+// The number before one of so many, round the circle: before 0 comes the last.
+fn before(number: u64, forms: u64) -> u64 {
+    if number == 0 {
+        return std::num::wrapping_sub_u64(forms, 1);
+    }
+    number - 1
+}
+
+// The same, and whether the step from the form before it leads to that number.
+fn follows(t: u64, s: u64, forms: u64, number: u64, beats: &mut [u8]) -> bool {
+    form::form(t, s, before(number, forms), beats);
+    circle::next(t, s, beats);
+    if !has(t, s, number, beats) {
         return false;
     }
-    again.value() == number
+    returns(t, s, number, beats)
 }
 
 fn print_lost(number: u64) {
@@ -26,7 +49,7 @@ fn print_all(t: u64, s: u64, beats: &mut [u8]) {
     let forms = counts::count(t, s).value();
     let mut sum: u64 = 0;
     for x in 0..forms {
-        if !returns(t, s, x, beats) {
+        if !follows(t, s, forms, x, beats) {
             print_lost(x);
             return;
         }
@@ -67,7 +90,7 @@ fn print_chosen(t: u64, s: u64, forms: u64, beats: &mut [u8]) {
     let mut seed: u64 = 0;
     for k in 0..21u64 {
         let x = chosen(forms, k, seed);
-        if !returns(t, s, x, beats) {
+        if !follows(t, s, forms, x, beats) {
             print_lost(x);
             return;
         }

@@ -85,33 +85,17 @@ pub fn both(kind: u64, t: u64, s: u64, beats: &[u8], room: usize) {
     print_both(kind, t, s, beats, &mut out[..room]);
 }
 
-// Puts bytes at the start of others, if there is room.
-fn put(head: &[u8], bytes: &mut [u8]) {
-    if bytes.len() < head.len() {
+// What bytes say of which all after the first 8 are 0.
+pub fn filled(src: &[u8]) {
+    if src.len() < 8 {
         return;
     }
-    for i in 0..head.len() {
-        bytes[i] = head[i];
-    }
-}
-
-fn print_filled(head: &[u8], src: &mut [u8]) {
-    put(head, src);
     let mut out = [7u8; PLACES];
     show::text(b"filled");
-    print_bytes(head);
+    print_bytes(&src[..8]);
     print_number(src.len() as u64);
     show::text(b": ");
     print_reading(reader::read(src, &mut out));
     print_bytes(&out);
     show::text(b"\n");
-}
-
-// What so many bytes say, at most 1,030: some, and zeros after them.
-pub fn filled(head: &[u8], length: usize) {
-    if 1030 < length {
-        return;
-    }
-    let mut src = [0u8; 1030];
-    print_filled(head, &mut src[..length]);
 }

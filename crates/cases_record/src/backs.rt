@@ -5,11 +5,12 @@ use crate::folds::Tally;
 use triangle::BEATS;
 use triangle::LARGEST;
 
-// The form of a number, in each kind.
+// The form of a number, in each kind that is written, and read in kind 1.
 fn ask(tally: Tally, t: u64, s: u64, x: u64, beats: &mut [u8]) -> Tally {
     form::form(t, s, x, beats);
-    let one = folds::both(tally, 1, t, s, x, beats);
-    folds::both(one, 2, t, s, x, beats)
+    let two = folds::both(tally, 2, t, s, x, beats);
+    let three = folds::both(two, 3, t, s, x, beats);
+    folds::earlier(three, t, s, x, beats)
 }
 
 // Every form of a pair: how many records came back, and the digest.

@@ -2,7 +2,7 @@
 // record says how many of these are accepted, the record itself among them, and the digest.
 use crate::folds;
 use crate::folds::Tally;
-use crate::spelled;
+use crate::held;
 use triangle::BEATS;
 use triangle::LARGEST;
 
@@ -63,22 +63,31 @@ fn print_written(kind: u64, t: u64, s: u64, x: u64, beats: &mut [u8], bytes: &mu
     print_changes(bytes);
 }
 
+// A record of kind 1, which is not written.
+fn print_held(t: u64, s: u64, number: u64) {
+    let mut bytes = [0u8; 14];
+    held::put(12, 1, t, s, number, &mut bytes);
+    print_changes(&mut bytes);
+}
+
 // Some with no byte after them, some with two.
 pub fn print_all() {
     let half = counts::count(LARGEST, LARGEST).value() / 2;
-    print_record(1, 3, 2, 2, 14);
-    print_record(1, 3, 2, 4, 16);
-    print_record(2, 3, 2, 3, 7);
-    print_record(2, 3, 2, 0, 9);
+    print_held(3, 2, 2);
+    print_held(LARGEST, LARGEST, half);
+    print_record(3, 3, 2, 1, 14);
+    print_record(3, 3, 2, 4, 16);
+    print_record(2, 3, 2, 2, 7);
+    print_record(2, 3, 2, 4, 9);
     print_record(2, 0, 0, 0, 6);
     print_record(2, 8, 5, 100, 8);
-    print_record(1, LARGEST, LARGEST, half, 14);
-    print_record(2, LARGEST, LARGEST, half, spelled::FULL_SIZE);
+    print_record(3, LARGEST, LARGEST, half, 14);
+    print_record(2, LARGEST, LARGEST, half, held::FULL_SIZE);
     print_record(
         2,
         LARGEST,
         LARGEST - 1,
         12345678901234567,
-        spelled::FULL_SIZE + 2,
+        held::FULL_SIZE + 2,
     );
 }

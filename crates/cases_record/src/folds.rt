@@ -1,5 +1,6 @@
 // What many calls answered and left, for the lines that stand for many calls.
 use crate::asks::PLACES;
+use crate::held;
 use record::Reading;
 use refusal::Answer;
 
@@ -84,6 +85,25 @@ fn says(r: Reading, t: u64, s: u64, x: u64, size: u64) -> bool {
     r.consumed() == size
 }
 
+// Reads a record of so many bytes; as wished if it says the form with a number.
+fn read_back(
+    tally: Tally,
+    t: u64,
+    s: u64,
+    x: u64,
+    beats: &[u8],
+    size: u64,
+    bytes: &[u8],
+    out: &mut [u8],
+) -> Tally {
+    let r = reader::read(bytes, out);
+    let sum = fold_reading(tally.sum, r, out);
+    if says(r, t, s, x, size) {
+        return counted(tally, starts(out, beats), sum);
+    }
+    counted(tally, false, sum)
+}
+
 fn both_into(
     tally: Tally,
     kind: u64,
@@ -95,13 +115,11 @@ fn both_into(
     out: &mut [u8],
 ) -> Tally {
     let a = record::write(kind, t, s, beats, bytes);
-    let written = fold_writing(tally.sum, a, bytes);
-    let r = reader::read(bytes, out);
-    let sum = fold_reading(written, r, out);
-    if says(r, t, s, x, a.value()) {
-        return counted(tally, starts(out, beats), sum);
-    }
-    counted(tally, false, sum)
+    let written = Tally {
+        good: tally.good,
+        sum: fold_writing(tally.sum, a, bytes),
+    };
+    read_back(written, t, s, x, beats, a.value(), bytes, out)
 }
 
 // Writes the record of the form with a number into 16 bytes that are 7 and reads it in PLACES places that are 7;
@@ -110,6 +128,14 @@ pub fn both(tally: Tally, kind: u64, t: u64, s: u64, x: u64, beats: &[u8]) -> Ta
     let mut bytes = [7u8; 16];
     let mut out = [7u8; PLACES];
     both_into(tally, kind, t, s, x, beats, &mut bytes, &mut out)
+}
+
+// Reads the record of kind 1, which is not written, of the form with a number; as wished if the form came back.
+pub fn earlier(tally: Tally, t: u64, s: u64, x: u64, beats: &[u8]) -> Tally {
+    let mut bytes = [7u8; 14];
+    let mut out = [7u8; PLACES];
+    held::put(12, 1, t, s, held::from_top(t, s, x), &mut bytes);
+    read_back(tally, t, s, x, beats, 14, &bytes, &mut out)
 }
 
 // The end of a line.

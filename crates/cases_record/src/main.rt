@@ -1,12 +1,14 @@
-// Writes order records and reads them: the manual, "Order record". Some forms are written in both kinds and
-// read back in full, all forms of the small counts and some of every larger pair in digests, and both ways are
-// asked on both sides of every refusal. The file stdout says what it must print; each line of it is worked out
-// again by host/oracle.py and host/packing.py, without this code. [D1e] [D1c] [B3] [R13] [R20] [R19]
+// Writes order records and reads them: the manual, "Order record". Some forms are written in kinds 2 and 3, read
+// back, and read in kind 1, whose bytes are put together here since it is not written: in full, and all forms of the
+// small counts and some of every larger pair in digests. Both ways are asked on both sides of every refusal. The file
+// stdout says what it must print; each line of it is worked out again by host/oracle.py and host/packing.py, without
+// this code. [D1e] [D1c] [B3] [R13] [R20] [R19] [K3] [K4]
 mod asks;
 mod backs;
 mod changes;
 mod folds;
 mod forms;
+mod held;
 mod orders;
 mod reads;
 mod spelled;
@@ -41,7 +43,6 @@ fn print_reads() {
     reads::exact_lengths();
     reads::unused_bits();
     reads::numbers();
-    reads::largest_numbers();
     reads::empty_hands();
     reads::take_ups();
     reads::long();

@@ -3,7 +3,7 @@ use crate::asks;
 use crate::spelled;
 use triangle::LARGEST;
 
-// With each kind that there is, and with one that there is not: 10 comes before all others.
+// With each kind that there is; kind 1 is not written, and 10 comes before all others.
 fn ask(t: u64, s: u64, n: usize, word: u64, room: usize) {
     spelled::write(1, t, s, n, word, room);
     spelled::write(2, t, s, n, word, room);
@@ -15,18 +15,19 @@ fn ask_kind(kind: u64) {
     asks::write(kind, 3, 2, &[1, 0, 1, 1, 0], 16);
 }
 
-// Refusal 10: the numbers beside 1 and 2, and those whose low bytes are 1 or 2.
+// Refusal 10: the numbers beside 2 and 3, and those whose low bytes are 2 or 3.
 pub fn kinds() {
     ask_kind(0);
     ask_kind(1);
     ask_kind(2);
     ask_kind(3);
+    ask_kind(4);
     ask_kind(255);
     ask_kind(256);
-    ask_kind(257);
+    ask_kind(259);
     ask_kind(65535);
     ask_kind(65538);
-    ask_kind(4294967297);
+    ask_kind(4294967299);
     ask_kind(9223372036854775808);
     ask_kind(18446744073709551615);
 }

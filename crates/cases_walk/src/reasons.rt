@@ -134,7 +134,7 @@ fn ask_number(s: u64, number: u64) {
     ask_in(s, number, &mut beats[..n]);
 }
 
-// The first form, three between and the last.
+// The first form, three between and the last, which is t ones then s zeros.
 fn ask_numbers(s: u64) {
     let forms = counts::count(LARGEST, s).value();
     if forms == 0 {

@@ -128,12 +128,14 @@ pub fn long() {
     ask_run_back(LARGEST, LARGEST, &mut full, 65535);
 }
 
-// Steps back of every shape, and runs back that stop before number 0, at it and past it.
+// Steps back of every shape, and runs back from number 2 that stop before number 0, at it and past it, at 3 ones then
+// 2 zeros first.
 pub fn backs() {
     ask_back(3, 2, &mut [1, 0, 1, 1, 0]);
     ask_back(3, 2, &mut [1, 1, 0, 1, 0]);
     ask_back(2, 2, &mut [1, 1, 0, 0]);
     ask_back(4, 4, &mut [1, 1, 0, 0, 1, 1, 0, 0]);
+    ask_run_back(3, 2, &mut [1, 0, 1, 0, 1], 1);
     ask_run_back(3, 2, &mut [1, 0, 1, 0, 1], 2);
     ask_run_back(3, 2, &mut [1, 0, 1, 0, 1], 3);
     ask_run_back(3, 2, &mut [1, 0, 1, 0, 1], 4);

@@ -13,12 +13,6 @@ Inv-loop t s beats₀ forms counter₀ beats counter = (length beats ≡ length 
 abbrev μ-loop : tie.MeasureT-loop
 μ-loop t s beats₀ forms counter₀ beats counter = forms - counter
 
-count-requires : tie.Need-count-requires Inv-loop μ-loop
-count-requires c κs = search needs
-
-value-requires : tie.Need-value-requires Inv-loop μ-loop
-value-requires c κs = search needs
-
 loop-holds : tie.Need-loop-holds Inv-loop μ-loop
 loop-holds c = search needs
 
@@ -37,9 +31,6 @@ loop-less c = search needs
 loop-again : tie.Need-loop-again Inv-loop μ-loop
 loop-again c = search needs
 
-ask-requires-2 : tie.Need-ask-requires-2 Inv-loop μ-loop
-ask-requires-2 c κs = search needs
-
 same-length : tie.Need-same-length Inv-loop μ-loop
 same-length c = search needs
 
@@ -52,14 +43,11 @@ ask-in-order-spec =
     (tie.spec
     Inv-loop
     μ-loop
-    count-requires
-    value-requires
     loop-holds
     ask-requires
     next-requires
     add-counter
     loop-less
     loop-again
-    ask-requires-2
     same-length
     returns)

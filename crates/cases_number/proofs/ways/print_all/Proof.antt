@@ -21,8 +21,8 @@ value-requires c κs = search needs
 loop-holds : tie.Need-loop-holds Inv-loop μ-loop
 loop-holds c = search needs
 
-returns-requires : tie.Need-returns-requires Inv-loop μ-loop
-returns-requires c κs = search needs
+follows-requires : tie.Need-follows-requires Inv-loop μ-loop
+follows-requires c κs = search needs
 
 print-lost-requires : tie.Need-print-lost-requires Inv-loop μ-loop
 print-lost-requires c κs = search needs
@@ -84,7 +84,7 @@ print-all-spec =
     count-requires
     value-requires
     loop-holds
-    returns-requires
+    follows-requires
     print-lost-requires
     same-length
     returns

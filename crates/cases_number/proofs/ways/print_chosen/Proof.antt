@@ -19,8 +19,8 @@ loop-holds c = search needs
 chosen-requires : tie.Need-chosen-requires Inv-loop μ-loop
 chosen-requires c κs = search needs
 
-returns-requires : tie.Need-returns-requires Inv-loop μ-loop
-returns-requires c κs = search needs
+follows-requires : tie.Need-follows-requires Inv-loop μ-loop
+follows-requires c κs = search needs
 
 print-lost-requires : tie.Need-print-lost-requires Inv-loop μ-loop
 print-lost-requires c κs = search needs
@@ -75,7 +75,7 @@ print-chosen-spec =
     μ-loop
     loop-holds
     chosen-requires
-    returns-requires
+    follows-requires
     print-lost-requires
     same-length
     returns

@@ -1,21 +1,24 @@
--- `cases_record::spelled::print_long` is safe and ends: there are at least 8 bytes. Assumes nothing.
+-- `cases_record::held::put` is safe and ends: there are at least 6 bytes. Assumes nothing.
 use borrow.Author.Needs.{needs}
 use mathlib.Core.Path.{sym}
 use native.Mathlib.Omega.{arith}
 use lib.Seq.{length-take-le}
-use Rattle.cases_record.proofs.spelled.print_long.Statement.{statement}
-use Rattle.cases_record.proofs.spelled.print_long.Tie as tie
+use Rattle.cases_record.proofs.held.put.Statement.{statement}
+use Rattle.cases_record.proofs.held.put.Tie as tie
 
 returns : tie.Need-returns
 returns c = search needs
+
+head-requires : tie.Need-head-requires
+head-requires c κs = search needs
 
 slice-relend-prefix-spell : tie.Need-slice-relend-prefix-spell
 slice-relend-prefix-spell c = search needs
 
 slice-aggregate-spell : tie.Need-slice-aggregate-spell
 slice-aggregate-spell c =
-    let args = c .before .before .before .args in
-    sym (length-take-le (8) (args .src .now) (omega arith))
+    let args = c .before .before .before .before .args in
+    sym (length-take-le 6 (args .src .now) (omega arith))
 
 spell-requires : tie.Need-spell-requires
 spell-requires c κs = search needs
@@ -32,20 +35,18 @@ part-spell-end c = search needs
 spell-requires-2 : tie.Need-spell-requires-2
 spell-requires-2 c κs = search needs
 
-read-requires : tie.Need-read-requires
-read-requires c κs = search needs
-
 same-length : tie.Need-same-length
 same-length c = search needs
 
 returns-2 : tie.Need-returns-2
 returns-2 c = search needs
 
-pub print-long-spec : {M : Type 1} → statement M
-print-long-spec =
+pub put-spec : {M : Type 1} → statement M
+put-spec =
     tie.close
     (tie.spec
     returns
+    head-requires
     slice-relend-prefix-spell
     slice-aggregate-spell
     spell-requires
@@ -53,6 +54,5 @@ print-long-spec =
     part-spell-start
     part-spell-end
     spell-requires-2
-    read-requires
     same-length
     returns-2)

@@ -1,23 +1,23 @@
--- `cases_record::spelled::filled` is safe and ends: the bytes are at most 8. Assumes nothing.
+-- `cases_record::held::filled` is safe and ends: the bytes are at most 1,030. Assumes nothing.
 use borrow.Author.Needs.{needs}
 use mathlib.Core.Path.{sym}
 use Prim.Native.Nat.{ℕ}
 use native.Mathlib.Omega.{arith}
 use lib.ListN.{replicate}
 use lib.Seq.{length-take-le}
-use Rattle.cases_record.proofs.spelled.filled.Statement.{statement}
-use Rattle.cases_record.proofs.spelled.filled.Tie as tie
+use Rattle.cases_record.proofs.held.filled.Statement.{statement}
+use Rattle.cases_record.proofs.held.filled.Tie as tie
 
 returns : tie.Need-returns
 returns c = search needs
 
-array-borrow-prefix-head : tie.Need-array-borrow-prefix-head
-array-borrow-prefix-head c = search needs
+array-borrow-prefix-src : tie.Need-array-borrow-prefix-src
+array-borrow-prefix-src c = search needs
 
 slice-aggregate-print-filled : tie.Need-slice-aggregate-print-filled
 slice-aggregate-print-filled c =
     let args = c .before .before .args in
-    sym (length-take-le (args .n) (replicate {A = ℕ} 8 0) (omega arith))
+    sym (length-take-le (args .length) (replicate {A = ℕ} 1030 0) (omega arith))
 
 print-filled-requires : tie.Need-print-filled-requires
 print-filled-requires c κs = search needs
@@ -30,7 +30,7 @@ filled-spec =
     tie.close
     (tie.spec
     returns
-    array-borrow-prefix-head
+    array-borrow-prefix-src
     slice-aggregate-print-filled
     print-filled-requires
     returns-2)
