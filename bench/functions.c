@@ -402,6 +402,16 @@ static void agree_on_spoilt(uint64_t t, uint64_t s) {
         agree_on_far(&right, far[k]);
 }
 
+/* The two forms at each end of the numbers. */
+static void agree_on_ends(uint64_t t, uint64_t s) {
+    uint64_t last = table_count(t, s) - 1, several = last > 0;
+    const uint64_t ends[] = {0, several, last - several, last};
+    for (size_t k = 0; k < sizeof ends / sizeof *ends; k++) {
+        const struct input in = input_of(t, s, ends[k], 2);
+        agree_on(&in);
+    }
+}
+
 static void agree(void) {
     agree_on_measured(8, 5);
     agree_on_measured(16, 16);
@@ -410,8 +420,10 @@ static void agree(void) {
     agree_on_measured(LARGEST, LARGEST);
     agree_on_measured(MIXED, 0);
     for (uint64_t t = 0; t <= LARGEST; t++)
-        for (uint64_t s = 0; s <= t; s++)
+        for (uint64_t s = 0; s <= t; s++) {
+            agree_on_ends(t, s);
             agree_on_spoilt(t, s);
+        }
     printf("the library and its plain twins agree: %lu calls\n", calls);
 }
 

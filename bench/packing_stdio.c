@@ -53,15 +53,16 @@ static void explained(int t, int s, const char *beats) {
         printf("4 %d %d %d %d\n", one, one, zero, one);
 }
 
-/* The form of a number above 0, from the last beat on: a 1 belongs to the group of all s set-downs. */
-static void form(int t, int s, uint64_t n, char *beats) {
-    while (s > 0 && n < forms[t][s]) {
-        if (n < forms[t][s - 1]) {
+/* The form at a place of the list, the first being 1, from the last beat on: a 1 belongs to the group of all s
+   set-downs. */
+static void form(int t, int s, uint64_t place, char *beats) {
+    while (s > 0 && place < forms[t][s]) {
+        if (place < forms[t][s - 1]) {
             beats[t + s - 1] = '0';
             s--;
         } else {
             beats[t + s - 1] = '1';
-            n -= forms[t][s - 1] - 1;
+            place -= forms[t][s - 1] - 1;
             t--;
         }
     }
@@ -69,8 +70,8 @@ static void form(int t, int s, uint64_t n, char *beats) {
     memset(beats + t, '0', s);
 }
 
-/* The number of a schedule: the beats up to the leftmost 01 have their count, and each later 1 adds the groups before
-   its own. */
+/* The number of a schedule: the beats up to the leftmost 01 are the last form of their counts, and each later 1 adds
+   the groups before its own. */
 static uint64_t number(int t, int s, const char *beats) {
     int ups = 0, downs = 0, k = 0;
     uint64_t n;
@@ -82,9 +83,7 @@ static uint64_t number(int t, int s, const char *beats) {
         downs++;
         k++;
     }
-    if (k == t + s)
-        return 0;
-    n = forms[ups][downs];
+    n = forms[ups][downs] - 1;
     for (; k < t + s; k++) {
         if (beats[k] == '1') {
             ups++;
@@ -96,20 +95,22 @@ static uint64_t number(int t, int s, const char *beats) {
     return n;
 }
 
-static void numbered(int t, int s, const unsigned char *bytes) {
+/* Kind 3 holds the number of a form, its place from 0 on. Kind 1 holds the place from 1 on, and 0 for the last. */
+static void numbered(int kind, int t, int s, const unsigned char *bytes) {
     char beats[BEATS + 1] = "";
-    uint64_t n = 0;
+    uint64_t held = 0, place;
     for (int k = 7; k >= 0; k--)
-        n = n << 8 | bytes[k];
-    if (n >= forms[t][s]) {
+        held = held << 8 | bytes[k];
+    if (held >= forms[t][s]) {
         refused(7, 0, 0);
         return;
     }
-    form(t, s, n == 0 ? forms[t][s] : n, beats);
+    place = kind == 3 ? held + 1 : held == 0 ? forms[t][s] : held;
+    form(t, s, place, beats);
     if (explaining)
         explained(t, s, beats);
     else
-        accepted(t, s, n, beats);
+        accepted(t, s, place - 1, beats);
 }
 
 static void packed(int t, int s, const unsigned char *bytes, int length) {
@@ -152,11 +153,11 @@ static void line(const unsigned char *body, int length) {
         return;
     }
     kind = body[0] | body[1] << 8;
-    if (kind != 1 && kind != 2) {
+    if (kind < 1 || kind > 3) {
         refused(10, 0, 0);
         return;
     }
-    if (kind == 1 ? length != 12 : length < 4) {
+    if (kind == 2 ? length < 4 : length != 12) {
         refused(11, 0, 0);
         return;
     }
@@ -166,10 +167,10 @@ static void line(const unsigned char *body, int length) {
         refused(1, 0, 0);
     else if (s > t)
         refused(2, 0, 0);
-    else if (kind == 1)
-        numbered(t, s, body + 4);
-    else
+    else if (kind == 2)
         packed(t, s, body + 4, length - 4);
+    else
+        numbered(kind, t, s, body + 4);
 }
 
 int main(int count, char **words) {

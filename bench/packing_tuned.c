@@ -238,11 +238,10 @@ static unsigned downs_after(unsigned ups, unsigned s, struct bits beats) {
     return after ? (unsigned)__builtin_clzll(after) : s;
 }
 
-/* The take-ups and set-downs in front have their own count in place of a gain; a number of N is 0. */
-static u64 number(unsigned t, unsigned s, struct bits beats, u64 sum) {
+/* The take-ups and set-downs in front are the last form of their counts. */
+static u64 number(unsigned s, struct bits beats, u64 sum) {
     unsigned ups = __builtin_clzll(~beats.word);
-    u64 n = sum + forms[ups][downs_after(ups, s, beats)];
-    return n == forms[t][s] ? 0 : n;
+    return forms[ups][downs_after(ups, s, beats)] - 1 + sum;
 }
 
 /* Beats that are no schedule: the first set-down with nothing in hand, or else the wrong number of ones. */
@@ -265,25 +264,27 @@ static u8 *packed(u8 *at, unsigned length, const u8 *body) {
     if (ones(beats.word) + (beats.rest ? ones(beats.rest) : 0) != t) return no_schedule(at, t, s, beats);
     worth sum = worth_of(t, beats);
     if (sum[1]) return no_schedule(at, t, s, beats);
-    return accepted(at, t, s, number(t, s, beats, sum[0]), beats);
+    return accepted(at, t, s, number(s, beats, sum[0]), beats);
 }
 
-static u8 *numbered(u8 *at, const u8 *body) {
+/* Kind 3 holds the number of a form, its place from 0 on. Kind 1 holds the place from 1 on, and 0 for the last. */
+static u8 *numbered(u8 *at, unsigned kind, const u8 *body) {
     unsigned t = body[2], s = body[3];
-    u64 n = word(body + 4);
-    if (n >= forms[t][s]) return refused(at, 7, 0, 0);
-    return accepted(at, t, s, n, n ? form(t, s, n - 1) : first[t]);
+    u64 held = word(body + 4), all = forms[t][s];
+    if (held >= all) return refused(at, 7, 0, 0);
+    u64 n = kind == 3 ? held : (held ? held : all) - 1;
+    return accepted(at, t, s, n, form(t, s, n));
 }
 
 /* The line of what stands after a length. */
 static u8 *line(u8 *at, unsigned length, const u8 *body) {
     if (length < 2) return refused(at, 11, 0, 0);
     unsigned kind = body[0] | body[1] << 8;
-    if (kind != 1 && kind != 2) return refused(at, 10, 0, 0);
-    if (kind == 1 ? length != 12 : length < 4) return refused(at, 11, 0, 0);
+    if (kind < 1 || kind > 3) return refused(at, 10, 0, 0);
+    if (kind == 2 ? length < 4 : length != 12) return refused(at, 11, 0, 0);
     if (body[2] > LARGEST) return refused(at, 1, 0, 0);
     if (body[3] > body[2]) return refused(at, 2, 0, 0);
-    return kind == 1 ? numbered(at, body) : packed(at, length, body);
+    return kind == 2 ? packed(at, length, body) : numbered(at, kind, body);
 }
 
 static void flush(void) {

@@ -476,13 +476,13 @@ uint64_t scan_run_back_changed(uint64_t t, uint64_t s, const uint8_t *beats, siz
 
 /* ---- the number ---- */
 
-/* The beats before the 1 of the leftmost 01 give their count; each 1 from there on adds the groups before its own. */
+/* The beats before the 1 of the leftmost 01 are the last form of their counts; each 1 from there on adds the groups
+   before its own. */
 uint64_t bytes_number(uint64_t t, uint64_t s, const uint8_t *beats, size_t length) {
     if (bytes_check(t, s, beats, length).refusal) return 0;
     struct front front = bytes_front(beats, length);
-    if (front.one == length) return 0;
     size_t ups = front.zero, downs = front.one - front.zero;
-    uint64_t number = forms[ups][downs];
+    uint64_t number = forms[ups][downs] - 1;
     for (size_t k = front.one; k < length; k++) {
         if (beats[k] == 1) {
             ups++;
@@ -494,10 +494,9 @@ uint64_t bytes_number(uint64_t t, uint64_t s, const uint8_t *beats, size_t lengt
     return number;
 }
 
-/* Every 1 adds its gain, those in front 0. Ones and then zeros would have the number N, which is 0. */
-static uint64_t closed(uint64_t t, uint64_t s, uint64_t sum, struct front front) {
-    uint64_t number = sum + forms[front.zero][front.one - front.zero];
-    return number == forms[t][s] ? 0 : number;
+/* Every 1 adds its gain, those in front 0. */
+static uint64_t from_front(struct front front, uint64_t sum) {
+    return forms[front.zero][front.one - front.zero] - 1 + sum;
 }
 
 uint64_t masks_number(uint64_t t, uint64_t s, const uint8_t *beats, size_t length) {
@@ -509,7 +508,7 @@ uint64_t masks_number(uint64_t t, uint64_t s, const uint8_t *beats, size_t lengt
         sum += *at & mask;
         at += 1 + (mask & (SIDE - 1));
     }
-    return closed(t, s, sum, words_front(beats, length));
+    return from_front(words_front(beats, length), sum);
 }
 
 /* Of eight beats the bits, the first in the lowest. */
@@ -572,7 +571,7 @@ uint64_t words_number(uint64_t t, uint64_t s, const uint8_t *beats, size_t lengt
     if (!bits.word) return 0;
     worth sum = worth_of(bits);
     if (sum[1]) return 0;
-    return closed(t, s, sum[0], bits_front(bits, s));
+    return from_front(bits_front(bits, s), sum[0]);
 }
 
 int32_t bytes_number_surplus(uint64_t t, uint64_t s, const uint8_t *beats, size_t length) {
@@ -588,19 +587,19 @@ static uint64_t form_refusal(uint64_t t, uint64_t s, uint64_t number, size_t len
     return length != t + s ? 3 : 0;
 }
 
-/* From the last beat on: a 1 belongs to the group of all s set-downs. Ones and then zeros count as the last form, not
-   as 0, so that the number is never 0 and the loop ends at s = 0 as well. */
+/* From the last beat on: a 1 belongs to the group of all s set-downs. The place in the list counts from 1, so that it
+   is never 0 and the loop ends at s = 0 as well. */
 uint64_t bytes_form(uint64_t t, uint64_t s, uint64_t number, uint8_t *out, size_t length) {
     uint64_t refusal = form_refusal(t, s, number, length);
     if (refusal) return refusal;
-    if (number == 0) number = forms[t][s];
-    while (number < forms[t][s]) {
-        if (number < forms[t][s - 1]) {
+    uint64_t place = number + 1;
+    while (place < forms[t][s]) {
+        if (place < forms[t][s - 1]) {
             out[t + s - 1] = 0;
             s--;
         } else {
             out[t + s - 1] = 1;
-            number -= forms[t][s - 1] - 1;
+            place -= forms[t][s - 1] - 1;
             t--;
         }
     }
@@ -618,7 +617,7 @@ static uint64_t pick(uint64_t mask, uint64_t one, uint64_t other) {
 uint64_t masks_form(uint64_t t, uint64_t s, uint64_t number, uint8_t *out, size_t length) {
     uint64_t refusal = form_refusal(t, s, number, length);
     if (refusal) return refusal;
-    uint64_t place = number == 0 ? forms[t][s] - 1 : number - 1;
+    uint64_t place = number;
     const struct bound *at = &bounds[t][s];
     uint64_t low = at->low, width = at->width;
     for (size_t k = length; k-- > 0;) {

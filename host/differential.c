@@ -46,9 +46,9 @@ struct example {
 
 /* "Examples on both sides". The changed beats of (3, 3) are counted by hand. */
 static const struct example EXAMPLES[] = {
-    {3, 2, {"11100", "10110", "11010", "10101", "11001"}, {2, 2, 4, 2, 2}},
-    {3, 3, {"111000", "101100", "110100", "101010", "110010"}, {2, 2, 4, 2, 2}},
-    {2, 1, {"110", "101"}, {2, 2}},
+    {3, 2, {"10110", "11010", "10101", "11001", "11100"}, {2, 4, 2, 2, 2}},
+    {3, 3, {"101100", "110100", "101010", "110010", "111000"}, {2, 4, 2, 2, 2}},
+    {2, 1, {"101", "110"}, {2, 2}},
     {1, 1, {"10"}, {0}},
     {4, 0, {"1111"}, {0}},
     {0, 0, {""}, {0}},
@@ -145,15 +145,18 @@ static void hold_addition_rule(void) {
         }
 }
 
-/* The form of each number is what as many steps lead to, and the circle closes when all forms were met. */
+/* The form of each number is what as many steps lead to, and the circle closes when all forms were met, after t ones
+   and s zeros. */
 static void hold_ways_together(uint64_t t, uint64_t s) {
-    uint8_t first[ROOM], walked[ROOM], grouped[ROOM];
+    uint8_t first[ROOM], last[ROOM], walked[ROOM], grouped[ROOM];
     uint64_t number, forms = count_by_formula(t, s);
     rely(forms == count_by_trying(t, s), "the formula counts otherwise than trying all lists", t, s);
     write_first(t, s, first);
+    write_last(t, s, last);
     memcpy(walked, first, t + s);
     for (number = 0; number < forms; number++) {
         rely(number == 0 || memcmp(walked, first, t + s) != 0, "the circle closes early", t, s);
+        rely((memcmp(walked, last, t + s) == 0) == (number == forms - 1), "ones and then zeros are not the last", t, s);
         form_by_groups(t, s, number, grouped);
         rely(memcmp(walked, grouped, t + s) == 0, "walking and the groups differ", t, s);
         rely(number_by_groups(t, s, walked) == number, "walking and the groups number otherwise", t, s);
@@ -204,10 +207,12 @@ static void circles_back(void) {
             verify_circle_back(t, s);
 }
 
-/* The numbers at the ends and past the last form, with every length up to past t + s. */
+/* The two numbers at each end and those past the last form, with every length up to past t + s. */
 static void verify_form_edges(uint64_t t, uint64_t s) {
-    uint64_t forms = count_by_formula(t, s);
-    uint64_t numbers[] = {0, forms - 1, forms, forms + 1, forms - 1 + (UINT64_C(1) << 32), UINT64_MAX};
+    uint64_t forms = count_by_formula(t, s), several = forms > 1;
+    uint64_t numbers[] = {
+        0, several, forms - 1 - several, forms - 1, forms, forms + 1, forms - 1 + (UINT64_C(1) << 32), UINT64_MAX,
+    };
     struct input in = {t, s, 0, {0}};
     size_t at;
     memset(in.beats, 2, ROOM);
@@ -286,7 +291,7 @@ static void damaged_forms(void) {
 /* So many ones, and then zeros, as beats of t, s. */
 static struct input ones_first(uint64_t t, uint64_t s, uint64_t ones) {
     struct input in = {t, s, t + s, {0}};
-    write_first(ones, t + s - ones, in.beats);
+    write_last(ones, t + s - ones, in.beats);
     return in;
 }
 
@@ -397,12 +402,15 @@ static void counts(void) {
     }
 }
 
-/* The forms on both sides of the closing step, and runs up to it and past it, on and back. */
+/* The forms on both sides of the closing step, there and back, and runs up to it and past it, on and back. */
 static void verify_closing(uint64_t t, uint64_t s) {
-    uint64_t steps, number, forms = count_by_formula(t, s);
-    for (number = 0; number < 4; number++) {
+    uint64_t steps, turn, forms = count_by_formula(t, s);
+    for (turn = 0; turn < 5; turn++) {
         struct input in = {t, s, t + s, {0}};
-        form_by_groups(t, s, (number + forms - 1) % forms, in.beats);
+        uint64_t number = (2 * forms - 2 + turn) % forms;
+        form_by_groups(t, s, number, in.beats);
+        rely(number_by_groups(t, s, in.beats) == number, "the form of a number has another", t, s);
+        verify_form(&in, number);
         verify_schedule(&in);
         for (steps = 0; steps < 5; steps++)
             verify_runs(&in, steps);

@@ -12,7 +12,7 @@
 #include "ghanveltri.h"
 
 /* The order: the tasks to take up, those to set down, and the number of the form. */
-enum { T = 3, S = 2, NUMBER = 2, BEATS = T + S };
+enum { T = 3, S = 2, NUMBER = 1, BEATS = T + S };
 
 /* The beats as digits, run together. */
 static const char *digits(const uint8_t *beats, size_t length) {
@@ -82,7 +82,7 @@ static void run_on(uint8_t beats[BEATS]) {
     require(strcmp(digits(beats, BEATS), "10110") == 0 && changed == 6, "another form is 3 steps on");
 }
 
-/* The four steps back, from the last form to the one that was shipped, as a spoiled bundle is reprinted. */
+/* The four steps back, from there to the form that was shipped, as a spoiled bundle is reprinted. */
 static void run_back(uint8_t beats[BEATS]) {
     uint64_t changed = gv_run_back_changed(T, S, beats, BEATS, 4);
     accept(gv_run_back(T, S, beats, BEATS, 4));

@@ -36,15 +36,15 @@ EXAMPLES = {
 
 
 def records_of(forms):
-    """The records of forms, each by its counts, its number and its beats, of both kinds."""
-    yield b"".join(packing.numbered(t, s, n) for t, s, n, _ in forms)
-    yield b"".join(packing.packed(t, s, beats) for t, s, _, beats in forms)
+    """The records of forms, each by its counts and its beats, of each kind."""
+    for kind in packing.KINDS:
+        yield b"".join(packing.record(kind, t, s, beats) for t, s, beats in forms)
 
 
 def examples(verifier):
     forms = [(form.count("1"), form.count("0"), [*map(int, form)]) for form in EXAMPLES]
     right = "".join(line + "\n" for line in EXAMPLES.values()).encode()
-    for data in records_of([(t, s, oracle.number_of(t, s, beats), beats) for t, s, beats in forms]):
+    for data in records_of(forms):
         verifier.verify("examples", data, right=right)
 
 
@@ -93,7 +93,7 @@ def steps(verifier):
     """What each line says, done to its form."""
     forms = [*some_forms()]
     after = [oracle.form_of(t, s, (n + 1) % oracle.forms(t, s)) for t, s, n, _ in forms]
-    for data in records_of(forms):
+    for data in records_of([(t, s, beats) for t, s, _, beats in forms]):
         for run, got in verifier.outputs("steps", data):
             lines = got.decode().splitlines()
             if len(lines) != len(forms):

@@ -127,7 +127,7 @@ uint64_t count_by_formula(uint64_t t, uint64_t s) {
     return counts[t][s];
 }
 
-void write_first(uint64_t t, uint64_t s, uint8_t *out) {
+void write_last(uint64_t t, uint64_t s, uint8_t *out) {
     memset(out, 1, t);
     memset(out + t, 0, s);
 }
@@ -181,6 +181,11 @@ uint64_t step(uint64_t t, uint64_t s, uint8_t *beats) {
     return changed;
 }
 
+void write_first(uint64_t t, uint64_t s, uint8_t *out) {
+    write_last(t, s, out);
+    step(t, s, out);
+}
+
 /* How many forms begin with so many ones and zeros, each made on to its end; no more than `most` are made. */
 static uint64_t forms_from(uint64_t t, uint64_t s, uint64_t ones, uint64_t zeros, uint64_t most) {
     uint64_t forms = 0;
@@ -230,8 +235,8 @@ static uint64_t forms_before_group(uint64_t t, uint64_t i) {
     return forms;
 }
 
-/* The place of a form in list S, from 0. */
-static uint64_t place_in_list(uint64_t t, uint64_t s, const uint8_t *beats) {
+/* A number is a place in list S, from 0. */
+uint64_t number_by_groups(uint64_t t, uint64_t s, const uint8_t *beats) {
     size_t last = t + s;
     uint64_t i;
     while (last > 0 && beats[last - 1] == 0)
@@ -240,32 +245,22 @@ static uint64_t place_in_list(uint64_t t, uint64_t s, const uint8_t *beats) {
     i = last - t;
     if (i == 0)
         return count_by_formula(t, s) - 1;
-    return forms_before_group(t, i) + place_in_list(t - 1, i, beats);
+    return forms_before_group(t, i) + number_by_groups(t - 1, i, beats);
 }
 
-/* The form at a place of list S, from 0. */
-static void write_at_place(uint64_t t, uint64_t s, uint64_t place, uint8_t *out) {
+void form_by_groups(uint64_t t, uint64_t s, uint64_t number, uint8_t *out) {
     uint64_t i, last = last_group(t, s);
     for (i = 1; i <= last; i++) {
         uint64_t forms = count_by_formula(t - 1, i);
-        if (place < forms) {
-            write_at_place(t - 1, i, place, out);
+        if (number < forms) {
+            form_by_groups(t - 1, i, number, out);
             out[t - 1 + i] = 1;
             memset(out + t + i, 0, s - i);
             return;
         }
-        place -= forms;
+        number -= forms;
     }
-    write_first(t, s, out);
-}
-
-/* List S is the circle, started one step later: its last form has number 0. */
-uint64_t number_by_groups(uint64_t t, uint64_t s, const uint8_t *beats) {
-    return (place_in_list(t, s, beats) + 1) % count_by_formula(t, s);
-}
-
-void form_by_groups(uint64_t t, uint64_t s, uint64_t number, uint8_t *out) {
-    write_at_place(t, s, number == 0 ? count_by_formula(t, s) - 1 : number - 1, out);
+    write_last(t, s, out);
 }
 
 /* Its number is as many below, and after 0 comes the last one. */

@@ -3,7 +3,7 @@
  * speed, and sharing no code and no limit with crates/ or include/.
  *
  * A number is found in two ways. By the steps of the rule, which is what a number is, where there are few
- * forms; by the groups of list S ("A second fact") and the closed formula, where there are too many to walk.
+ * forms; by the groups of list S ("The number") and the closed formula, where there are too many to walk.
  * host/differential.c holds the two to each other.
  *
  * No step is undone here. An earlier form is the form of an earlier number, and what lies between the two is
@@ -55,7 +55,10 @@ int is_schedule(uint64_t t, uint64_t s, const uint8_t *beats, size_t length);
 /* N(t, s) by the closed formula. */
 uint64_t count_by_formula(uint64_t t, uint64_t s);
 
-/* t ones and then s zeros, the form of number 0. */
+/* t ones and then s zeros, the form of the last number. */
+void write_last(uint64_t t, uint64_t s, uint8_t *out);
+
+/* The form after it, the form of number 0. */
 void write_first(uint64_t t, uint64_t s, uint8_t *out);
 
 /* "The step", literally, in place; answers the beats that it changed. */

@@ -3,10 +3,11 @@ crates/.
 
 What a call is refused for is one value, a Why, and each call passes it on whole: check(t, s, beats) answers it alone,
 count(t, s) and the others before all else. successor(t, s, beats) is the form that a step leads to, and
-explanation(t, s, beats) what the step does. form_of(t, s, n) and number_of(t, s, beats) are the form of a number and the
-number of a form, by the groups of source 000's list and not by walking. No step is undone: run_back(t, s, beats, k)
-takes the form of an earlier number and walks on from it. tree(n, ..) and schedule_of_tree(n, ..) go by nested pairs,
-read from the beats or from the tables.
+explanation(t, s, beats) what the step does. form_of(t, s, n) and number_of(t, s, beats) are the form of a number and
+the number of a form, by the groups of source 000's list and not by walking; form_from_top and number_from_top are the
+same in the earlier numbering, which records of kind 1 hold. No step is undone: run_back(t, s, beats, k) takes the form
+of an earlier number and walks on from it. tree(n, ..) and schedule_of_tree(n, ..) go by nested pairs, read from the
+beats or from the tables.
 """
 from functools import cache
 from itertools import product
@@ -48,7 +49,7 @@ TABLE_1 = [
 ]
 
 
-# The words of Figure 2.3 of source 001, as printed there. [P9]
+# The words of Figure 2.3 of source 001, as printed there: the circle from the top, source 000's list R. [P9]
 FIGURE_2_3 = (
     "11110000 10111000 11011000 11101000 10110100 11010100 10101100 "
     "11001100 11100100 10110010 11010010 10101010 11001010 11100010"
@@ -195,34 +196,41 @@ def group_sizes(t, s):
     return [(i, forms(t - 1, i)) for i in range(1, last + 1)]
 
 
-def listed(t, s, place):
-    """The form at a place, from 0, of source 000's list S(t, s): its groups, and at last t ones then s zeros."""
-    for i, size in group_sizes(t, s):
-        if place < size:
-            return listed(t - 1, i, place) + [1] + [0] * (s - i)
-        place -= size
-    sure(place == 0, f"the list S of ({t}, {s}) has no form so far after its groups")
+def top(t, s):
+    """The form that takes everything up first."""
     return [1] * t + [0] * s
 
 
-def place_of(t, s, beats):
-    """The place, from 0, of a form in the list S(t, s)."""
-    if beats == [1] * t + [0] * s:
+def form_of(t, s, n):
+    """The form of a number below N(t, s): that at this place, from 0, of source 000's list S(t, s), which has its
+    groups and at last t ones then s zeros. [E7b]"""
+    for i, size in group_sizes(t, s):
+        if n < size:
+            return form_of(t - 1, i, n) + [1] + [0] * (s - i)
+        n -= size
+    sure(n == 0, f"the list S of ({t}, {s}) has no form so far after its groups")
+    return top(t, s)
+
+
+def number_of(t, s, beats):
+    """The number of a schedule: its place, from 0, in the list S(t, s)."""
+    if beats == top(t, s):
         return forms(t, s) - 1
     last = max(k for k in range(t + s) if beats[k] == 1)
     before = beats[:last]
     group = before.count(0)
-    return sum(size for i, size in group_sizes(t, s) if i < group) + place_of(t - 1, group, before)
+    return sum(size for i, size in group_sizes(t, s) if i < group) + number_of(t - 1, group, before)
 
 
-def form_of(t, s, n):
-    """The form of a number below N(t, s): the list turned by one, so that its last form has the number 0. [E7b]"""
-    return listed(t, s, (n - 1) % forms(t, s))
+def form_from_top(t, s, n):
+    """The form of a number from the top, which counts from t ones then s zeros, as records of kind 1 do: the list S
+    turned by one, so that its last form has the number 0."""
+    return form_of(t, s, (n - 1) % forms(t, s))
 
 
-def number_of(t, s, beats):
-    """The number of a schedule."""
-    return (place_of(t, s, beats) + 1) % forms(t, s)
+def number_from_top(t, s, beats):
+    """The number from the top of a schedule."""
+    return (number_of(t, s, beats) + 1) % forms(t, s)
 
 
 def run_back(t, s, beats, k):

@@ -3,8 +3,8 @@
 
 read(data) reads the record that data starts with, in the reading order of the document; line_of(data, at) is the line
 of the one that starts at data[at:], and lines(data) the whole list. All that list take what says the line of a record,
-so that a list of other lines is read in the same way. record(kind, t, s, beats) makes a record's bytes. The slice that
-a reader lends is taken to be large enough, so there is no 12.
+so that a list of other lines is read in the same way. record(kind, t, s, beats) makes a record's bytes, of kind 1 too,
+which is read and not written. The slice that a reader lends is taken to be large enough, so there is no 12.
 """
 import functools
 import sys
@@ -13,7 +13,10 @@ import oracle
 from oracle import Why
 
 LONGEST = 1020
-NUMBERED, PACKED = 1, 2
+FROM_TOP, PACKED, NUMBERED = KINDS = (1, 2, 3)  # what a record holds: a number from the top, the beats, the number
+HOLDING = (FROM_TOP, NUMBERED)  # the kinds that hold a number
+FORM_OF = {FROM_TOP: oracle.form_from_top, NUMBERED: oracle.form_of}  # what a number means that a record holds
+NUMBER_OF = {FROM_TOP: oracle.number_from_top, NUMBERED: oracle.number_of}
 NOTHING = (0, 0, 0, [])  # what a refused record says: t, s, number and beats
 
 
@@ -22,9 +25,9 @@ def framed(body):
     return len(body).to_bytes(2, "little") + body
 
 
-def numbered(t, s, n):
-    """A record of kind 1, of any number below 2^64."""
-    return framed(bytes([NUMBERED, 0, t, s]) + n.to_bytes(8, "little"))
+def numbered(t, s, n, kind=NUMBERED):
+    """A record that holds a number, any below 2^64: of kind 3, or of kind 1."""
+    return framed(bytes([kind, 0, t, s]) + n.to_bytes(8, "little"))
 
 
 def packed(t, s, beats):
@@ -36,7 +39,7 @@ def packed(t, s, beats):
 
 def record(kind, t, s, beats):
     """The record of a schedule."""
-    return numbered(t, s, oracle.number_of(t, s, beats)) if kind == NUMBERED else packed(t, s, beats)
+    return packed(t, s, beats) if kind == PACKED else numbered(t, s, NUMBER_OF[kind](t, s, beats), kind)
 
 
 def refused(why):
@@ -47,10 +50,12 @@ def accepted(t, s, n, beats):
     return f"{t} {s} {n} {''.join(map(str, beats)) or '-'}"
 
 
-def numbered_form(t, s, n):
-    """What a record of kind 1 says of allowed counts: why it is refused, and t, s, number and beats."""
+def numbered_form(kind, t, s, n):
+    """What a record that holds a number says of allowed counts: why it is refused, and t, s, number and beats. What it
+    holds is tested as it stands there, and the number is that of the form."""
     why = oracle.numbered(t, s, n)
-    return (why, NOTHING if why else (t, s, n, oracle.form_of(t, s, n)))
+    beats = [] if why else FORM_OF[kind](t, s, n)
+    return (why, NOTHING if why else (t, s, oracle.number_of(t, s, beats), beats))
 
 
 def bits_of(packs):
@@ -72,15 +77,17 @@ def body_form(body):
     if len(body) < 2:
         return (Why(11), NOTHING)
     kind = int.from_bytes(body[:2], "little")
-    if kind not in (NUMBERED, PACKED):
+    if kind not in KINDS:
         return (Why(10), NOTHING)
-    if len(body) != 12 if kind == NUMBERED else len(body) < 4:
+    if len(body) < 4 if kind == PACKED else len(body) != 12:
         return (Why(11), NOTHING)
     t, s = body[2:4]
     why = oracle.allowed(t, s)
     if why:
         return (why, NOTHING)
-    return numbered_form(t, s, int.from_bytes(body[4:], "little")) if kind == NUMBERED else packed_form(t, s, body[4:])
+    if kind == PACKED:
+        return packed_form(t, s, body[4:])
+    return numbered_form(kind, t, s, int.from_bytes(body[4:], "little"))
 
 
 # Streams of the tests repeat records.

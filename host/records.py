@@ -1,7 +1,7 @@
 #!/usr/bin/env python3
 """Makes records for the packing list, the same for the same seed: host/records.py [--valid] SEED COUNT > records.
 
-Mixed records of both kinds, about 15 in 100 of them to be refused, by every refusal that a whole record can get; with
+Mixed records of all kinds, about 15 in 100 of them to be refused, by every refusal that a whole record can get; with
 --valid none. Every record is whole, so a list of them never stops before its end.
 """
 import random
@@ -27,20 +27,24 @@ def counts(rng):
 
 
 def number(rng, t, s):
-    """A number below N(t, s): from the whole range, from the small ones of each length, or an end."""
+    """A number below N(t, s): from the whole range, from the small ones of each length, or of the two at each end."""
     top = oracle.forms(t, s) - 1
     how = rng.random()
-    if how < 0.02:
-        return 0
     if how < 0.04:
-        return top
+        return rng.choice((0, min(1, top), max(0, top - 1), top))
     return min(top, rng.getrandbits(rng.randrange(1, WIDTH + 1))) if how < 0.2 else rng.randrange(top + 1)
 
 
+def numbered(rng, t, s, n):
+    """A record that holds a number: half of them of kind 1, and half of kind 3."""
+    return packing.numbered(t, s, n, rng.choice(packing.HOLDING))
+
+
 def valid(rng):
+    """A record that is accepted: half of them hold a number, and half the beats."""
     t, s = counts(rng)
     n = number(rng, t, s)
-    return packing.numbered(t, s, n) if rng.random() < 0.5 else packing.packed(t, s, oracle.form_of(t, s, n))
+    return numbered(rng, t, s, n) if rng.random() < 0.5 else packing.packed(t, s, oracle.form_of(t, s, n))
 
 
 def noise(rng, length):
@@ -50,7 +54,7 @@ def noise(rng, length):
 def number_too_large(rng):
     t, s = counts(rng)
     n = oracle.forms(t, s)
-    return packing.numbered(t, s, rng.choice((n, n + 1, rng.randrange(n, TOP + 1), n | 1 << 63, TOP)))
+    return numbered(rng, t, s, rng.choice((n, n + 1, rng.randrange(n, TOP + 1), n | 1 << 63, TOP)))
 
 
 def nothing_in_hand(rng):
@@ -87,7 +91,7 @@ def wrong_length(rng):
 
 def long(rng):
     """A length far too large, with its bytes there; its kind, too, may be unknown."""
-    kind = rng.choice((1, 2, 3)).to_bytes(2, "little")
+    kind = rng.choice((*packing.KINDS, 4)).to_bytes(2, "little")
     length = rng.choice((1019, 1020, rng.randrange(15, 1021)))
     return packing.framed((kind + noise(rng, length))[:length])
 
@@ -98,7 +102,7 @@ def short(rng):
 
 def unknown_kind(rng):
     body = valid(rng)[2:]
-    return packing.framed(rng.choice((0, 3, 4, 256, 257, 65535)).to_bytes(2, "little") + body[2:])
+    return packing.framed(rng.choice((0, 4, 5, 256, 257, 259, 65535)).to_bytes(2, "little") + body[2:])
 
 
 def counts_not_allowed(rng):

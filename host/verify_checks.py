@@ -136,6 +136,11 @@ def gone(path):
     path.unlink()
 
 
+def shorter(path):
+    """A byte less at the end."""
+    path.write_bytes(path.read_bytes()[:-1])
+
+
 # The checks and their breaks.
 
 COMMANDS = {  # where it is not the host test as it stands
@@ -169,6 +174,7 @@ LESS = listed_through("2d")  # it loses its second line
 UNSIGNED = listed_through(r"s/ -\([0-9]\)/ \1/")  # it prints no sign
 NO_SURPLUS = listed_through("/^refused/s/ [^ ]*$//")  # it prints no third field
 NO_ONES = listed_through("/^refused 6/s/ [^ ]* [^ ]*$//")  # it prints no fourth and fifth field
+EARLIER = "#!/bin/sh\nexec /bin/cat host/earlier/packing_list\n"  # it has the numbers of version 1.4.0
 SILENT = f'#!/bin/sh\nexec "$0{RIGHT}" "$@" 2>/dev/null\n'  # it tells no failure
 
 CLAIMS, VACUITY, SHAMS, REQUIRES = "docs/CLAIMS.md", "docs/VACUITY.md", "docs/SHAMS.md", "docs/REQUIRES.md"
@@ -184,7 +190,9 @@ EXPLAIN, EXPLAIN_PROGRAM, EXPLAIN_PAGE, EXPLAINING = "target/host/explain", "tar
 CHANGES, BEFORE = "changes(beats, own.after)", "form_of(t, s, (number_of(t, s, beats) - 1) % forms(t, s))"  # of the oracle; and the form before
 LOOK, LOOKUP, STREAM = "| `lookup` | `look` |", "crates/lookup/src/lib.rt", "crates/stream/src/lib.rt"
 GROUND, WALK, ORACLE, PACKING = "crates/cases_ground/stdout", "crates/cases_walk/stdout", "host/oracle.py", "host/packing.py"
+NUMBER, RECORD = "crates/cases_number/stdout", "crates/cases_record/stdout"
 VERIFY_CASES, INDEPENDENT, STDIO = "host/verify_cases.py", "host/independent.c", "bench/packing_stdio.c"
+EARLIER_LIST, EARLIER_EXPLAIN, PLAIN = "host/earlier/packing_list", "host/earlier/explain", "bench/plain.c"
 COUNT, COUNTS = "crates/triangle/specs/Count.antt", "crates/triangle/src/table.rt"
 LARGEST = "LARGEST: u64 = "  # before the number that follows it in the table of counts
 TABLE_1, FIGURE = "Table 1 of source 000", "Figure 2.3 of source 001"
@@ -200,6 +208,11 @@ class Break(NamedTuple):
     says: tuple
     variables: dict = {}
     words: tuple = ()
+
+
+def kind_1_as_kind_3(*says):
+    """What a record of kind 1 holds, taken for the number of the form."""
+    return Break("kind 1 taken for kind 3", PACKING, swap("P: oracle.form_from_top", "P: oracle.form_of"), says)
 
 
 def kinds_gone():
@@ -315,6 +328,8 @@ BREAKS = {
         Break("a line of no kind", GROUND, swap("count 2 3:", "cuont 2 3:"), ("'cuont'",)),
         Break("a stored output gone", WALK, gone, (WALK,)),
         *lines_wrong(GROUND, "off"),
+        *lines_wrong(NUMBER, "number", "form", "ends"),
+        *lines_wrong(RECORD, "read", "write"),
         *lines_wrong(WALK, "order_back", "round_back", "previous", "previous_changed", "run_back", "run_back_changed"),
         *lines_wrong(WALK, "explain", "explain_number", "explain_round"),
         Break("an example gone", WALK, drop("explain 3 2 11010:"), ("the manual's 'explain 3 2 11010' is missing",)),
@@ -335,6 +350,7 @@ BREAKS = {
         Break("other words of a surplus", HEADER, swap("never 0 after that", "never 1 after that"), ("nothing holds the 1", "'never 0 ")),
         Break("a place for no place", HEADER, swap("GV_NO_PLACE 18446744073709551615u", "GV_NO_PLACE 64"), ("GV_NO_PLACE of the header is 64",)),
         Break("another number of a case", HEADER, swap("4: the found 1 moves", "5: the found 1 moves"), ("nothing holds the 5", "'4: the found 1")),
+        Break("numbers moved the other way", HEADER, swap("(n + N - 1) % N", "(n + 1) % N"), ("(n + N - 1) % N here",)),
         Break("the archive gone", ARCHIVE, gone, ("rt staticlib ghanveltri",)),
     ],
     "manual_agrees": [
@@ -353,10 +369,10 @@ BREAKS = {
     ],
     "functions_agree": [
         Break("two functions exchanged", ARCHIVE, exchange("gv_count_place", "gv_count_refusal"), ("gv_count_refusal",)),
-        *turned("gv_{}(", "next", "next_changed", "run"),
-        *turned("gv_run_back_changed(", "run_changed"),
+        *turned("gv_{}(", "next", "next_changed", "run", "run_changed"),
         surplus_as_place("gv_check_place("),
         moved_as_found("gv_explain_found("),
+        Break("numbers from 1", INDEPENDENT, swap("return forms_b", "return 1 + forms_b"), ("number otherwise",)),
         Break("another case worked out", INDEPENDENT, swap("found + 1 ? 3 : 4", "found + 1 ? 4 : 3"), ("an example's case differs",)),
         Break("another 1 found", INDEPENDENT, swap("NO_PLACE : found - 1", "NO_PLACE : found"), ("an example's found 1 differs",)),
         off_the_other_way(INDEPENDENT, "(int64_t)ones", "(int64_t)t", "an example's surplus differs"),
@@ -366,6 +382,7 @@ BREAKS = {
         *turned("{} by ", "next", "run_changed"),
         surplus_as_place("check_place by "),
         moved_as_found("explain_found by "),
+        Break("numbers from 1", PLAIN, swap("[ups][downs] - 1;", "[ups][downs];"), ("number by bytes answers",)),
     ],
     "packing_list_agrees": [
         Break("a line lost", COMMAND, becomes(LESS), ("sample", "line 2")),
@@ -373,6 +390,8 @@ BREAKS = {
         Break("a line lost, and a right program named from outside", COMMAND, becomes(LESS), ("line 2",), {"GV_PACKING_LIST": PROGRAM}),
         Break("no command", COMMAND, gone, (COMMAND, "host/build")),
         Break("a third field lost", COMMAND, becomes(NO_SURPLUS), ("sample", "line 3")),
+        kind_1_as_kind_3("sample: worked out wrongly: line 1"),
+        Break("kind 3 taken for kind 1", PACKING, swap(".form_of}", ".form_from_top}"), ("each kind", "line 3")),
         Break("a sign lost", PROGRAM, becomes(UNSIGNED), ("line 2", "b'refused 6 0 -1' is right"), {}, ("miscounted",)),
         Break("no sign worked out", PACKING, swap("{why.surplus}", "{abs(why.surplus)}"), ("miscounted: worked out wrongly: line 2",), {}, ("miscounted",)),
     ],
@@ -397,7 +416,17 @@ BREAKS = {
     "packing_programs_agree": [
         Break("a line lost", PROGRAM, becomes(LESS), ("packing_list",)),
         off_the_other_way(STDIO, "ones", "t", "packing_stdio does not write"),
+        Break("kinds 1 and 3 exchanged", STDIO, swap("kind == 3 ?", "kind == 1 ?"), ("packing_stdio does not write",)),
         Break("a case explained otherwise", STDIO, swap("one - zero < zero", "one - zero <= zero"), ("explain does not write",)),
+    ],
+    "earlier_records_read": [
+        Break("a record cut", "host/earlier/records", shorter, ("host/earlier/records is not what",)),
+        Break("another form stored", EARLIER_LIST, misspell("5 3 27 "), (EARLIER_LIST, "got b'5 3 27 11110000'")),
+        Break("another place stored", EARLIER_EXPLAIN, misspell("2 - 7 "), ("stored records", "b'2 - 7 1 0' is right")),
+        Break("numbers not moved", COMMAND, becomes(EARLIER), ("b'2 1 1 110' is right, got b'2 1 0 110'",)),
+        Break("an explanation lost", EXPLAIN_PROGRAM, becomes(LESS), ("explain: the stored records, from_file: line",)),
+        kind_1_as_kind_3(f"{EARLIER_LIST}: line"),
+        Break("numbers from the top moved on", ORACLE, swap("(n - 1) %", "(n + 1) %"), ("from the top of (3, 1)",)),
     ],
     "faults_are_told": [
         Break("a failure not told", COMMAND, becomes(SILENT), ("stop_behind_a_9 of packing_list: ", "full_device of packing_list: command ")),
@@ -411,7 +440,7 @@ BREAKS = {
         Break("a surplus shown otherwise", EXAMPLE, swap("-surplus);", "surplus);"), ("does not print what it should",)),
     ],
     "checks_can_fail": [
-        Break("an assert", ORACLE, swap("    sure(place == 0, ", "    assert (place == 0, "), (ORACLE, "an assert")),
+        Break("an assert", ORACLE, swap("    sure(n == 0, ", "    assert (n == 0, "), (ORACLE, "an assert")),
         Break("a variable read", PACKING, swap("\nimport sys\n", "\nimport os, sys\nos.environ.get('X')\n"), (PACKING, "reads a variable")),
     ],
     "the gate": [

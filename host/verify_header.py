@@ -18,6 +18,7 @@ import sys
 import tempfile
 
 import oracle
+import packing
 from header import ARCHIVE, HEADER, HOW, constants, declared, output, prototype, prototypes, refusals, texts
 from listing import LISTED, NOT_READ, NOT_WRITTEN
 from verifying import ROOT, verdict
@@ -200,17 +201,31 @@ def page_section():
     return page.suffix[1:]
 
 
+def from_version_1():
+    """What a caller of the version before is told to change. [K7]"""
+    here, before = constants()["GV_VERSION_MAJOR"], constants()["GV_VERSION_MAJOR"] - 1
+    stored, written = packing.FROM_TOP, packing.NUMBERED
+    return {
+        f"Version {here} differs from version {before} in": "the macro",
+        f"the number n of version {before} is (n + N - 1) % N here": "earlier_records_read",
+        f"Order records of kind {stored} need no change": "earlier_records_read",
+        f"write kind {written} in place of kind {stored}.": "stored_outputs_right, by the lines of cases_record",
+        f"the shared library of version {before} is not given version {here}": "shared_library_agrees, by the soname",
+    }
+
+
 def held():
     """The words with a number that comments may say, each computed, or with what holds it."""
-    first = oracle.number_of(3, 2, [1, 1, 1, 0, 0])
+    first = oracle.number_of(3, 2, oracle.successor(3, 2, oracle.top(3, 2)))
     return {
         f"for {next(iter(LANGUAGES))} and C++": "the header is compiled as these",
         f"({machine()})": "the archive's own head",
         f"ghanveltri({page_section()})": "the page is there",
         "t of them are 1 (": "the manual, A schedule",
         "s are 0 (": "the manual, A schedule",
-        f"the form of number {first}": "the oracle's number of it",
-        f"s zeros has number {first} too": "the oracle's number of it",
+        f"the form after t ones and s zeros, the form of number {first}": "the oracle's number of it",
+        f"The form after t ones and s zeros has number {first} too": "the oracle's number of it",
+        **from_version_1(),
         "places are counted from 0": "functions_agree, by the places of host/independent.c",
         "or 0 where there is none": "functions_agree",
         "0 after a refusal": "functions_agree",

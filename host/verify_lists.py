@@ -44,6 +44,16 @@ SAMPLE = [
     )
 ]
 
+# 11010 of (3, 2) in each kind: it is number 2 from the top, and number 1. [K4]
+ALIKE = [
+    bytes.fromhex(line)
+    for line in (
+        "0C 00 01 00 03 02 02 00 00 00 00 00 00 00",
+        "05 00 02 00 03 02 D0",
+        "0C 00 03 00 03 02 01 00 00 00 00 00 00 00",
+    )
+]
+
 # Records of kind 2 that are refused 6, with the surplus of each, the ones asked for and the ones found: the manual's, and those at the ends
 # of what can occur.
 MOST = oracle.LARGEST
@@ -62,10 +72,11 @@ MISCOUNTED = [
 
 
 class Known(NamedTuple):
-    """What is known of a list without working it out: the list of the sample, the line of a 6, and an accepted record with the longest
-    line; and the parts that it alone has."""
+    """What is known of a list without working it out: the list of the sample, the line of 11010, the line of a 6, and
+    an accepted record with the longest line; and the parts that it alone has."""
 
     sample: bytes
+    alike: bytes
     miscounted: str
     longest: bytes
     parts: tuple = ()
@@ -73,12 +84,14 @@ class Known(NamedTuple):
 
 KNOWN = {
     PACKING: Known(
-        b"3 2 2 11010\n3 2 3 10101\nrefused 7 0 0\n1 1 0 10\n",
+        b"3 2 1 11010\n3 2 2 10101\nrefused 7 0 0\n1 1 0 10\n",
+        b"3 2 1 11010\n",
         "refused 6 0 {surplus}\n",
         packing.numbered(MOST, MOST, FULL - 1),
     ),
     EXPLAINING: Known(
         b"3 3 4 1 2 3 4\n4 2 2 1 2\nrefused 7 0 0\n1 - - -\n",
+        b"3 3 4 1 2 3 4\n",
         "refused 6 0 {surplus} {asked} {found}\n",
         packing.packed(MOST, MOST - 1, [1] * (MOST - 1) + [0] * (MOST - 2) + [1, 0]),
         explained.PARTS,
@@ -197,16 +210,20 @@ class Verifier:
 
 def sample(verifier):
     verifier.verify("sample", b"".join(SAMPLE), from_file, in_pieces, bytewise, right=verifier.known.sample)
+    verifier.verify("each kind", b"".join(ALIKE), from_file, in_pieces, bytewise, right=verifier.known.alike * 3)
     verifier.verify("empty input", b"", from_file, in_pieces, right=b"")
 
 
 def cuts(verifier):
     """Each record cut at every byte, alone and after the ones before it; and shorter rests."""
-    for number, record in enumerate(SAMPLE, 1):
-        for length in range(len(record)):
-            verifier.verify(f"record {number} cut to {length}", record[:length])
-            verifier.verify(f"sample cut in record {number} to {length}", b"".join(SAMPLE[: number - 1]) + record[:length])
-    for rest in ("00", "01", "FF", "0100", "0200", "020001", "0400020000", "FC030100", "FD030100", "FFFF"):
+    for name, some in (("sample", SAMPLE), ("each kind", ALIKE)):
+        for number, record in enumerate(some, 1):
+            for length in range(len(record)):
+                before = b"".join(some[: number - 1])
+                verifier.verify(f"{name}, record {number} cut to {length}", record[:length])
+                verifier.verify(f"{name} cut in record {number} to {length}", before + record[:length])
+    long = ("FC030100", "FC030300", "FD030100", "FD030300", "FFFF")
+    for rest in ("00", "01", "FF", "0100", "0200", "020001", "0400020000", *long):
         verifier.verify(f"rest {rest}", bytes.fromhex(rest))
         verifier.verify(f"sample and rest {rest}", b"".join(SAMPLE) + bytes.fromhex(rest))
 
@@ -219,7 +236,7 @@ def body_of(kind, length):
 def limits(verifier):
     """The longest record and what is longer; after a 9 nothing is read, whatever stands there."""
     after = SAMPLE[0] * 200
-    for kind in (0, 1, 2, 3, 65535):
+    for kind in (0, *packing.KINDS, 4, 65535):
         longest = packing.framed(body_of(kind, 1020))
         verifier.verify(f"L = 1020 of kind {kind}", longest + after, from_file, in_pieces)
         verifier.verify(f"L = 1020 of kind {kind}, cut", longest[:-1])
@@ -257,7 +274,7 @@ def miscounted(verifier):
 
 
 def lengths():
-    for kind in (0, 1, 2, 3, 65535):
+    for kind in (0, *packing.KINDS, 4, 65535):
         for length in (*range(2, 40), *range(40, 1016, 61), *range(1016, 1021)):
             yield packing.framed(body_of(kind, length))
     yield from (packing.framed(bytes([b])) for b in range(4))
@@ -271,11 +288,11 @@ def kinds():
 
 
 def pairs_of_counts():
-    """Every t with the s around the bounds, in both kinds, with number 0 or its beats, or all bits 0."""
+    """Every t with the s around the bounds, in each kind, with number 0 or its beats, or all bits 0."""
     for t in range(256):
         for s in {0, 1, max(0, t - 1), t, min(255, t + 1), oracle.LARGEST, oracle.LARGEST + 1, 255}:
-            yield packing.numbered(t, s, 0)
-            yield packing.packed(t, s, [1] * t + [0] * s)
+            yield from (packing.numbered(t, s, 0, kind) for kind in packing.HOLDING)
+            yield packing.packed(t, s, oracle.top(t, s))
             yield packing.packed(t, s, [0] * (t + s))
 
 
@@ -285,7 +302,7 @@ def numbers():
         n = oracle.forms(t, s)
         for number in (0, 1, n // 2, n - 2, n - 1, n, n + 1, n | 1 << 32, n - 1 | 1 << 56, n - 1 | 1 << 63, 2**63, 2**64 - 1):
             if number >= 0:
-                yield packing.numbered(t, s, number)
+                yield from (packing.numbered(t, s, number, kind) for kind in packing.HOLDING)
             if 0 <= number < n:
                 yield packing.packed(t, s, oracle.form_of(t, s, number))
 
@@ -307,7 +324,7 @@ def beats():
 def faults_together():
     """Records with several faults: the order decides."""
     edges = (oracle.LARGEST, oracle.LARGEST + 1, 255)
-    lengths_and_kinds = (0, 1, 2, 3, 4, 5, 6, 11, 12, 13, 14), (0, 1, 2, 3, 256, 257)
+    lengths_and_kinds = (0, 1, 2, 3, 4, 5, 6, 11, 12, 13, 14), (0, *packing.KINDS, 4, 256, 257, 259)
     counts_and_fills = (0, 1, 3, *edges), (0, 1, 2, *edges), (0, 1, 0xA8, 0xFF)
     for length, kind, t, s, fill in itertools.product(*lengths_and_kinds, *counts_and_fills):
         yield packing.framed((kind.to_bytes(2, "little") + bytes([t, s]) + bytes([fill] * 10))[:length])
@@ -342,7 +359,7 @@ def filler(length):
 
 
 STRADDLERS = {
-    "kind 1": packing.numbered(MOST, MOST, FULL - 1),
+    **{f"kind {kind}": packing.numbered(MOST, MOST, FULL - 1, kind) for kind in packing.HOLDING},
     "kind 2": packing.packed(MOST, MOST, oracle.form_of(MOST, MOST, FULL // 2)),
     "longest": packing.framed(body_of(1, 1020)),
 }
@@ -375,7 +392,8 @@ def piece_ends(verifier):
 
 # Records with short lines. That of the first has eight bytes in each list, two more than the record, so that a block of output is full
 # before one of input is used up. Lines of two of them leave every rest when their length is divided by eight.
-SHORT = [packing.packed(0, 0, []), packing.framed(b"\3\0"), *(packing.numbered(t, s, 0) for t, s in ((2, 1), (9, 2), (10, 1)))]
+SHORT = [packing.packed(t, s, oracle.top(t, s)) for t, s in ((0, 0), (2, 1), (9, 2), (10, 1))]
+SHORT.append(packing.framed(b"\4\0"))
 
 
 @functools.cache

@@ -235,10 +235,11 @@ def ask_largest(caller):
     """The largest counts and numbers, which take all bits of their types."""
     t = constants()["GV_MAX_TASKS"]
     last = oracle.forms(t, t) - 1
+    ends = (0, 1, last - 1, last)
     ask_counts(caller, t, t)
-    for n in (last // 2, last, last + 1, last | 1 << 63, TOP):
+    for n in (*ends, last // 2, last + 1, last | 1 << 63, TOP):
         ask_form(caller, t, t, n, [7] * (2 * t))
-    for n in (0, last):
+    for n in ends:
         ask_beats(caller, t, t, oracle.form_of(t, t, n))
 
 
@@ -348,7 +349,7 @@ def turned_away(t, s, beats):
 @functools.cache
 def example_lines():
     """What host/example.c prints, worked out."""
-    t, s, n = 3, 2, 2
+    t, s, n = 3, 2, 1
     shipped = oracle.form_of(t, s, n)
     after = oracle.successor(t, s, shipped)
     _, changed, on = oracle.run(t, s, after, 3)
