@@ -5,6 +5,7 @@
 --     place-back                    a place before the last is the rank
 --     raise-place                   the rank after one more 1, by the place before it
 --     raise-more                    it is not 0, so that it is the place
+--     form-rank                     the form n steps from t ones then s zeros has the rank n
 --     top-number-rank               the number from t ones then s zeros is the rank
 --     number-place, form-place      the number is the place less 1
 -- Assumes nothing.
@@ -17,7 +18,6 @@ use Rattle.triangle.proofs.Count.{N-add, N-pos}
 use Rattle.schedule.specs.Schedule.{Schedule}
 use Rattle.schedule.proofs.Hand.{schedule-le}
 use Rattle.circle.specs.Step.{top}
-use Rattle.circle.specs.Walk.{steps}
 use Rattle.circle.proofs.Rank.{raise, rankOf}
 use Rattle.circle.proofs.Circle.{At, before, past, walk-rank, rank-lt, same-rank, round, top-schedule, top-rank}
 use Rattle.circle.proofs.Backwards.{steps-first}

@@ -3,7 +3,7 @@
 --     steps-around      k steps lead where k mod N(t, s) steps lead
 -- Assumes nothing.
 use mathlib.Core.List.{List}
-use mathlib.Core.Path.{_≡_, refl, _∙_, ap, sym}
+use mathlib.Core.Path.{_≡_, _∙_, ap, sym}
 use Prim.Native.Nat.{ℕ, zero, suc, _+_, _%_}
 use native.Mathlib.Decide.{decLt}
 use native.Mathlib.Nat.{add-zero, add-suc, mod-eq-of-lt, mod-lt, mod-self, suc-mod}

@@ -1,13 +1,12 @@
 -- `number::rank` meets its contract: the leading ones and zeros close their own list, and each turn of the loop counts
 -- one beat more, which was tested. Where a test fails, the beats are no schedule of these counts. Assumes nothing.
 use mathlib.Core.Bool.{true, true≢false}
-use mathlib.Core.Logic.{_≢_}
 use mathlib.Core.Path.{_≡_, refl, _∙_, ap, ap₂, sym}
 use Prim.Native.Nat.{ℕ, _+_, _-_, _≤_, _<_}
 use native.Mathlib.Omega.{arith}
 use borrow.Author.Needs.{needs}
 use borrow.Author.Tests.{not-true, not-false}
-use lib.ListN.{length, getD}
+use lib.ListN.{length}
 use Rattle.triangle.specs.Count.{N, largest}
 use Rattle.triangle.proofs.Count.{N-pos}
 use Rattle.triangle.proofs.Rule.{N-fits}
