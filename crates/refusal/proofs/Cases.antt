@@ -13,7 +13,7 @@ use Rattle.refusal.specs.declared.Refusal.the-variants.{
   BadBeat,
   EmptyHand,
   WrongTakeUps,
-  RunTooLong,
+  NoSuchOutline,
 }
 use Rattle.refusal.specs.declared.Verdict.{Verdict}
 use Rattle.refusal.specs.Refusal.{refusalNumber, refusalPlace, refusalSurplus}
@@ -25,8 +25,8 @@ use Rattle.refusal.proofs.Theorems.{Given, refused-given, given-refused
 number-1 : refusalNumber TooManyTasks ≡ 1
 number-1 = refl
 
-number-13 : refusalNumber RunTooLong ≡ 13
-number-13 = refl
+number-15 : refusalNumber (NoSuchOutline 2) ≡ 15
+number-15 = refl
 
 place-3 : refusalPlace (BadBeat 3) ≡ 3
 place-3 = refl

@@ -2,7 +2,7 @@
 --     Given               a row of the order holds and names the refusal, and no row before it holds
 --     refused-given, given-refused     an order refuses so exactly if that is given [R11]
 --     accepted-none, none-accepted     it accepts exactly if no row holds [R11]
---     refused-number      a refusal's number is 1 to 13, so 0 is left for an accepted call [R2]
+--     refused-number      a refusal's number is 1 to 15, so 0 is left for an accepted call [R2]
 --     accepted-zero       a verdict that answers 0 accepts; that one which accepts answers 0 is
 --                         `accepted-refusal` of Cases [R8]
 --     same-refusal        number, place and surplus say which refusal it is [R2]
@@ -49,6 +49,8 @@ use Rattle.refusal.specs.declared.Refusal.the-variants.{
   WrongSize,
   NoRoom,
   RunTooLong,
+  NotClosed,
+  NoSuchOutline,
 }
 use Rattle.refusal.specs.declared.Verdict.{Verdict}
 use Rattle.refusal.specs.Refusal.{refusalNumber, refusalPlace, refusalSurplus}
@@ -106,13 +108,14 @@ named : ℕ → ℕ → ℤ → Refusal
 named n at off =
     getD
     (TooManyTasks ∷ TooManyTasks ∷ MoreDownThanUp ∷ WrongLength ∷ BadBeat at ∷ EmptyHand at ∷ WrongTakeUps off ∷
-    NoSuchNumber ∷ NoSuchTables ∷ CutShort ∷ UnknownKind ∷ WrongSize ∷ NoRoom ∷ RunTooLong ∷ [])
+    NoSuchNumber ∷ NoSuchTables ∷ CutShort ∷ UnknownKind ∷ WrongSize ∷ NoRoom ∷ RunTooLong ∷
+    NotClosed ∷ NoSuchOutline at ∷ [])
     n
     TooManyTasks
 
 named-back : (why : Refusal)
     → (named (refusalNumber why) (refusalPlace why) (refusalSurplus why) ≡ why)
-    × (1 ≤ refusalNumber why) × (refusalNumber why ≤ 13)
+    × (1 ≤ refusalNumber why) × (refusalNumber why ≤ 15)
     × ((refusalNumber why ≡ 6 → ⊥) → refusalSurplus why ≡ pos 0)
 unfolding named
 named-back TooManyTasks = (refl, omega arith, omega arith, λ other. refl)
@@ -128,8 +131,10 @@ named-back UnknownKind = (refl, omega arith, omega arith, λ other. refl)
 named-back WrongSize = (refl, omega arith, omega arith, λ other. refl)
 named-back NoRoom = (refl, omega arith, omega arith, λ other. refl)
 named-back RunTooLong = (refl, omega arith, omega arith, λ other. refl)
+named-back NotClosed = (refl, omega arith, omega arith, λ other. refl)
+named-back (NoSuchOutline line) = (refl, omega arith, omega arith, λ other. refl)
 
-pub refused-number : (why : Refusal) → (1 ≤ refusalNumber why) × (refusalNumber why ≤ 13)
+pub refused-number : (why : Refusal) → (1 ≤ refusalNumber why) × (refusalNumber why ≤ 15)
 refused-number why = (named-back why .1, named-back why .2)
 
 pub same-refusal : (p q : Refusal) → refusalNumber p ≡ refusalNumber q → refusalPlace p ≡ refusalPlace q

@@ -1,7 +1,7 @@
 -- The table of refusals, the manual, "Refusal numbers". Definitions only.
 --     refusalNumber     the number of a refusal's row [R1] [F5]
---     refusalPlace      the place that goes with it: the beat that the case names, and 0 where the table's place is 0
---                       [R1] [F5]
+--     refusalPlace      the place that goes with it: the beat or the line that the case names, and 0 where the table's
+--                       place is 0 [R1] [F5]
 --     refusalSurplus    the surplus of ones that goes with it: what 6 says, and 0 for every other [Q2] [R1] [F5]
 use Prim.Native.Nat.{ℕ}
 use lib.IntN.{ℤ, pos}
@@ -20,6 +20,8 @@ use Rattle.refusal.specs.declared.Refusal.the-variants.{
   WrongSize,
   NoRoom,
   RunTooLong,
+  NotClosed,
+  NoSuchOutline,
 }
 
 abbrev pub refusalNumber : Refusal → ℕ
@@ -36,6 +38,8 @@ refusalNumber UnknownKind = 10
 refusalNumber WrongSize = 11
 refusalNumber NoRoom = 12
 refusalNumber RunTooLong = 13
+refusalNumber NotClosed = 14
+refusalNumber (NoSuchOutline line) = 15
 
 abbrev pub refusalPlace : Refusal → ℕ
 refusalPlace TooManyTasks = 0
@@ -51,6 +55,8 @@ refusalPlace UnknownKind = 0
 refusalPlace WrongSize = 0
 refusalPlace NoRoom = 0
 refusalPlace RunTooLong = 0
+refusalPlace NotClosed = 0
+refusalPlace (NoSuchOutline line) = line
 
 abbrev pub refusalSurplus : Refusal → ℤ
 refusalSurplus TooManyTasks = pos 0
@@ -66,3 +72,5 @@ refusalSurplus UnknownKind = pos 0
 refusalSurplus WrongSize = pos 0
 refusalSurplus NoRoom = pos 0
 refusalSurplus RunTooLong = pos 0
+refusalSurplus NotClosed = pos 0
+refusalSurplus (NoSuchOutline line) = pos 0

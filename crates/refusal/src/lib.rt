@@ -6,8 +6,8 @@ ghost use mathlib.Core.Path.{_≡_};
 ghost use Rattle.refusal.specs.Refusal.{refusalNumber, refusalPlace, refusalSurplus};
 ghost use Rattle.refusal.specs.Answer as answer;
 
-// Why a call was refused. A case that holds a number names the beat at fault, counted from 0; but 6 holds how
-// many ones there are beyond those that were named, below 0 where some are missing. [R1] [Q1] [F7]
+// Why a call was refused. A case that holds a number names the beat or the line at fault, counted from 0; but 6 holds
+// how many ones there are beyond those that were named, below 0 where some are missing. [R1] [Q1] [F7]
 pub enum Refusal {
     // 1: more tasks than a schedule may have
     TooManyTasks,
@@ -35,6 +35,10 @@ pub enum Refusal {
     NoRoom,
     // 13: a run of more steps than allowed
     RunTooLong,
+    // 14: a schedule that does not set down all that it takes up
+    NotClosed,
+    // 15: a text that is no outline, its first wrong, missing or surplus line
+    NoSuchOutline(u64),
 }
 
 impl Refusal {
@@ -56,10 +60,12 @@ impl Refusal {
             Refusal::WrongSize => 11,
             Refusal::NoRoom => 12,
             Refusal::RunTooLong => 13,
+            Refusal::NotClosed => 14,
+            Refusal::NoSuchOutline(_) => 15,
         }
     }
 
-    // The beat at fault, and 0 for a refusal that names none.
+    // The beat or the line at fault, and 0 for a refusal that names none.
     pub fn place(self) -> u64
         ensures { λ r. ⌜ r ≡ refusalPlace self ⌝ }
     {
@@ -77,6 +83,8 @@ impl Refusal {
             Refusal::WrongSize => 0,
             Refusal::NoRoom => 0,
             Refusal::RunTooLong => 0,
+            Refusal::NotClosed => 0,
+            Refusal::NoSuchOutline(line) => line,
         }
     }
 

@@ -34,11 +34,10 @@ fn width(n: u64) -> usize
     digits
 }
 
-// Writes n in decimal, from its last digit to its first, and answers the index after it.
-pub fn decimal(n: u64, out: &mut [u8], at: usize) -> usize
-    requires { ⌜ at + 20 ≤ length (now out) ⌝ }
+// Writes n in decimal where its digits have room, from its last digit to its first, and answers the index after it.
+pub fn numeral(n: u64, out: &mut [u8], at: usize) -> usize
+    requires { ⌜ at + length (Decimal·decimal n) ≤ length (now out) ⌝ }
     ensures { λ r. ⌜ Written at (Decimal·decimal n) (now (out .entry)) (now (out .exit)) r ⌝ }
-    ensures { λ r. ⌜ r ≤ at + 20 ⌝ }
 {
     let end = at + width(n);
     let mut last = end - 1;
@@ -50,6 +49,15 @@ pub fn decimal(n: u64, out: &mut [u8], at: usize) -> usize
     }
     out[last] = b'0' + rest as u8;
     end
+}
+
+// Writes n in decimal where any number has room, and answers the index after it.
+pub fn decimal(n: u64, out: &mut [u8], at: usize) -> usize
+    requires { ⌜ at + 20 ≤ length (now out) ⌝ }
+    ensures { λ r. ⌜ Written at (Decimal·decimal n) (now (out .entry)) (now (out .exit)) r ⌝ }
+    ensures { λ r. ⌜ r ≤ at + 20 ⌝ }
+{
+    numeral(n, out, at)
 }
 
 // Writes n in decimal and a space after it, and answers the index after both.

@@ -22,6 +22,8 @@ use Rattle.refusal.specs.declared.Refusal.the-variants.{
   WrongSize,
   NoRoom,
   RunTooLong,
+  NotClosed,
+  NoSuchOutline,
 }
 use Rattle.refusal.specs.Refusal.{refusalSurplus}
 use Rattle.refusal.proofs.Refusal as enum
@@ -30,7 +32,7 @@ use Rattle.refusal.proofs.Refusal.surplus.Tie as tie
 
 -- the other cases, by their tags
 abbrev others : List ℕ
-others = 0 ∷ 1 ∷ 2 ∷ 3 ∷ 4 ∷ 6 ∷ 7 ∷ 8 ∷ 9 ∷ 10 ∷ 11 ∷ 12 ∷ []
+others = 0 ∷ 1 ∷ 2 ∷ 3 ∷ 4 ∷ 6 ∷ 7 ∷ 8 ∷ 9 ∷ 10 ∷ 11 ∷ 12 ∷ 13 ∷ 14 ∷ []
 
 unsaid : (why : Refusal) → OneOf others (tagOf enum.the-type why) → pos 0 ≡ refusalSurplus why
 unsaid TooManyTasks k = refl
@@ -46,6 +48,8 @@ unsaid UnknownKind k = refl
 unsaid WrongSize k = refl
 unsaid NoRoom k = refl
 unsaid RunTooLong k = refl
+unsaid NotClosed k = refl
+unsaid (NoSuchOutline line) k = refl
 
 enum-known-self : tie.Need-enum-known-self
 enum-known-self c = search needs
