@@ -41,19 +41,13 @@ use Rattle.reader.proofs.Heads.{whole-long, body-size}
 use Rattle.reader.proofs.Verdicts.{told-verdict}
 use Rattle.reader.proofs.Parts.{read-facts}
 use Rattle.reader.proofs.Meaning.{numbered-facts, beaten-facts, read-means}
-use Rattle.demands.specs.Calls.{Call, Gives}
+use Rattle.demands.specs.Calls.{Move, next, previous, run, run-back, moveAnswer, Call, Gives}
 use Rattle.demands.specs.Calls.{
   CountsOf,
   of-count,
   of-check,
-  of-next,
+  of-move,
   of-changed,
-  of-run,
-  of-run-changed,
-  of-previous,
-  of-previous-changed,
-  of-run-back,
-  of-run-back-changed,
   of-explain,
   of-number,
   of-form,
@@ -66,14 +60,8 @@ use Rattle.demands.specs.Calls.{
 use Rattle.demands.specs.Calls.{
   BeatsOf,
   in-check,
-  in-next,
+  in-move,
   in-changed,
-  in-run,
-  in-run-changed,
-  in-previous,
-  in-previous-changed,
-  in-run-back,
-  in-run-back-changed,
   in-explain,
   in-number,
   in-tree,
@@ -118,6 +106,13 @@ run-checked : (t s : ℕ) (b : List ℕ) (k : ℕ) → judge (runRows t s b k) �
     → checked t s b ≡ Verdict.Accepted
 run-checked t s b k e = judge-front (checkRows t s b) ((ltb mostSteps k ⇒ RunTooLong) ∷ []) e
 
+move-checked : (way : Move) (t s : ℕ) (b : List ℕ) → Verdict.Accepted ≡ verdict (moveAnswer way t s b)
+    → checked t s b ≡ Verdict.Accepted
+move-checked next t s b e = taken _ _ e
+move-checked previous t s b e = taken _ _ e
+move-checked (run k) t s b e = run-checked t s b k (taken _ _ e)
+move-checked (run-back k) t s b e = run-checked t s b k (taken _ _ e)
+
 write-checked : (kind t s : ℕ) (b out : List ℕ) → judge (writeRows kind t s b out) ≡ Verdict.Accepted
     → checked t s b ≡ Verdict.Accepted
 write-checked kind t s b out e =
@@ -148,17 +143,8 @@ pub accepted-counts : {c : Call} {t s : ℕ} (m : List ℕ) (x : List (List ℕ)
     → Gives c Verdict.Accepted m x → Allowed t s
 accepted-counts m x (of-count {t} {s}) g = counts-allowed t s (taken _ _ (g .0 .0))
 accepted-counts m x (of-check {t} {s} {b}) g = accepted-schedule t s b (sym (g .0 .0)) .0
-accepted-counts m x (of-next {t} {s} {b}) g = accepted-schedule t s b (taken _ _ (g .0 .0)) .0
-accepted-counts m x (of-changed {t} {s} {b}) g = accepted-schedule t s b (taken _ _ (g .0 .0)) .0
-accepted-counts m x (of-run {t} {s} {b} {k}) g = accepted-schedule t s b (run-checked t s b k (taken _ _ (g .0 .0))) .0
-accepted-counts m x (of-run-changed {t} {s} {b} {k}) g =
-    accepted-schedule t s b (run-checked t s b k (taken _ _ (g .0 .0))) .0
-accepted-counts m x (of-previous {t} {s} {b}) g = accepted-schedule t s b (taken _ _ (g .0 .0)) .0
-accepted-counts m x (of-previous-changed {t} {s} {b}) g = accepted-schedule t s b (taken _ _ (g .0 .0)) .0
-accepted-counts m x (of-run-back {t} {s} {b} {k}) g =
-    accepted-schedule t s b (run-checked t s b k (taken _ _ (g .0 .0))) .0
-accepted-counts m x (of-run-back-changed {t} {s} {b} {k}) g =
-    accepted-schedule t s b (run-checked t s b k (taken _ _ (g .0 .0))) .0
+accepted-counts m x (of-move {way} {t} {s} {b}) g = accepted-schedule t s b (move-checked way t s b (g .0 .0)) .0
+accepted-counts m x (of-changed {way} {t} {s} {b}) g = accepted-schedule t s b (move-checked way t s b (g .0 .0)) .0
 accepted-counts m x (of-explain {t} {s} {b}) g = accepted-schedule t s b (sym (g .0 .0)) .0
 accepted-counts m x (of-number {t} {s} {b}) g = accepted-schedule t s b (taken _ _ (g .0 .0)) .0
 accepted-counts m x (of-form {t} {s} {n} {out}) g = form-counts t s n (form-allowed t s n out (sym (g .0 .0)) .0)
@@ -174,19 +160,10 @@ accepted-counts m x (of-write {kind} {t} {s} {b} {out}) g =
 pub accepted-beats : {c : Call} {t s : ℕ} {b : List ℕ} (m : List ℕ) (x : List (List ℕ)) → CountsOf c t s → BeatsOf c b
     → Gives c Verdict.Accepted m x → Schedule t s b
 accepted-beats m x (of-check {t} {s} {b}) in-check g = accepted-schedule t s b (sym (g .0 .0)) .1
-accepted-beats m x (of-next {t} {s} {b}) in-next g = accepted-schedule t s b (taken _ _ (g .0 .0)) .1
-accepted-beats m x (of-changed {t} {s} {b}) in-changed g = accepted-schedule t s b (taken _ _ (g .0 .0)) .1
-accepted-beats m x (of-run {t} {s} {b} {k}) in-run g =
-    accepted-schedule t s b (run-checked t s b k (taken _ _ (g .0 .0))) .1
-accepted-beats m x (of-run-changed {t} {s} {b} {k}) in-run-changed g =
-    accepted-schedule t s b (run-checked t s b k (taken _ _ (g .0 .0))) .1
-accepted-beats m x (of-previous {t} {s} {b}) in-previous g = accepted-schedule t s b (taken _ _ (g .0 .0)) .1
-accepted-beats m x (of-previous-changed {t} {s} {b}) in-previous-changed g =
-    accepted-schedule t s b (taken _ _ (g .0 .0)) .1
-accepted-beats m x (of-run-back {t} {s} {b} {k}) in-run-back g =
-    accepted-schedule t s b (run-checked t s b k (taken _ _ (g .0 .0))) .1
-accepted-beats m x (of-run-back-changed {t} {s} {b} {k}) in-run-back-changed g =
-    accepted-schedule t s b (run-checked t s b k (taken _ _ (g .0 .0))) .1
+accepted-beats m x (of-move {way} {t} {s} {b}) in-move g =
+    accepted-schedule t s b (move-checked way t s b (g .0 .0)) .1
+accepted-beats m x (of-changed {way} {t} {s} {b}) in-changed g =
+    accepted-schedule t s b (move-checked way t s b (g .0 .0)) .1
 accepted-beats m x (of-explain {t} {s} {b}) in-explain g = accepted-schedule t s b (sym (g .0 .0)) .1
 accepted-beats m x (of-number {t} {s} {b}) in-number g = accepted-schedule t s b (taken _ _ (g .0 .0)) .1
 accepted-beats m x of-tree in-tree g = tree-sized _ refl (g .3) .1
@@ -196,14 +173,8 @@ accepted-beats m x (of-write {kind} {t} {s} {b} {out}) in-write g =
 -- the counts of a call that is asked about beats
 asked-counts : {c : Call} {b : List ℕ} → BeatsOf c b → (t : ℕ) × (s : ℕ) × CountsOf c t s
 asked-counts in-check = (_, _, of-check)
-asked-counts in-next = (_, _, of-next)
+asked-counts in-move = (_, _, of-move)
 asked-counts in-changed = (_, _, of-changed)
-asked-counts in-run = (_, _, of-run)
-asked-counts in-run-changed = (_, _, of-run-changed)
-asked-counts in-previous = (_, _, of-previous)
-asked-counts in-previous-changed = (_, _, of-previous-changed)
-asked-counts in-run-back = (_, _, of-run-back)
-asked-counts in-run-back-changed = (_, _, of-run-back-changed)
 asked-counts in-explain = (_, _, of-explain)
 asked-counts in-number = (_, _, of-number)
 asked-counts in-tree = (_, _, of-tree)

@@ -14,14 +14,8 @@ use Rattle.demands.specs.Calls.{
   Call,
   count,
   check,
-  next,
+  move,
   changed,
-  run,
-  run-changed,
-  previous,
-  previous-changed,
-  run-back,
-  run-back-changed,
   explain,
   number,
   form,
@@ -36,14 +30,8 @@ use Rattle.demands.specs.Calls.{
 pub call-answered : (c : Call) → ((v : Verdict) (m : List ℕ) (x : List (List ℕ)) → Gives c v m x → ⊥) → ⊥
 call-answered (count t s) silent = silent _ _ _ ((refl, refl), refl)
 call-answered (check t s b) silent = silent _ _ _ ((refl, refl), refl)
-call-answered (next t s b) silent = silent _ _ _ ((refl, refl), refl)
-call-answered (changed t s b) silent = silent _ _ _ ((refl, refl), refl)
-call-answered (run t s b k) silent = silent _ _ _ ((refl, refl), refl)
-call-answered (run-changed t s b k) silent = silent _ _ _ ((refl, refl), refl)
-call-answered (previous t s b) silent = silent _ _ _ ((refl, refl), refl)
-call-answered (previous-changed t s b) silent = silent _ _ _ ((refl, refl), refl)
-call-answered (run-back t s b k) silent = silent _ _ _ ((refl, refl), refl)
-call-answered (run-back-changed t s b k) silent = silent _ _ _ ((refl, refl), refl)
+call-answered (move way t s b) silent = silent _ _ _ ((refl, refl), refl)
+call-answered (changed way t s b) silent = silent _ _ _ ((refl, refl), refl)
 call-answered (explain t s b) silent = silent _ _ _ ((refl, refl), refl)
 call-answered (number t s b) silent = silent _ _ _ ((refl, refl), refl)
 call-answered (form t s n out) silent = silent _ _ _ ((refl, refl), refl)

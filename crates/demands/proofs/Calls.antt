@@ -16,11 +16,10 @@ use Rattle.refusal.specs.Rows.{judge}
 use Rattle.refusal.proofs.Theorems.{verdict-answer}
 use Rattle.counts.specs.Counts.{counting}
 use Rattle.schedule.specs.Check.{checked}
-use Rattle.circle.specs.Answers.{runRows, nextAnswer, runAnswer}
+use Rattle.circle.specs.Answers.{runRows}
 use Rattle.circle.specs.Step as rule
 use Rattle.circle.specs.Walk as walk
 use Rattle.circle.specs.Back as back
-use Rattle.circle_back.specs.Answers.{previousAnswer, runBackAnswer}
 use Rattle.reason.specs.Explanation.{explanationOf}
 use Rattle.reason.specs.Answers.{unless-refused, numbers}
 use Rattle.number.specs.Answers.{numberAnswer}
@@ -38,13 +37,12 @@ use Rattle.demands.specs.Calls.{
   count,
   check,
   next,
-  changed,
-  run,
-  run-changed,
   previous,
-  previous-changed,
+  run,
   run-back,
-  run-back-changed,
+  moveAnswer,
+  move,
+  changed,
   explain,
   number,
   form,
@@ -84,18 +82,15 @@ pub call-unchanged : (c : Call) (why : Refusal) (m : List ℕ) (x : List (List �
     → x ≡ lent c
 call-unchanged (count t s) why m x g = g .1
 call-unchanged (check t s b) why m x g = g .1
-call-unchanged (next t s b) why m x g =
+call-unchanged (move next t s b) why m x g =
     stayed (checked t s b) (walk.changed b (rule.next b)) (rule.next b) b (g .0 .0) (g .1)
-call-unchanged (changed t s b) why m x g = g .1
-call-unchanged (run t s b k) why m x g =
-    stayed (judge (runRows t s b k)) (walk.worked k b) (walk.steps k b) b (g .0 .0) (g .1)
-call-unchanged (run-changed t s b k) why m x g = g .1
-call-unchanged (previous t s b) why m x g =
+call-unchanged (move previous t s b) why m x g =
     stayed (checked t s b) (walk.changed b (back.previous b)) (back.previous b) b (g .0 .0) (g .1)
-call-unchanged (previous-changed t s b) why m x g = g .1
-call-unchanged (run-back t s b k) why m x g =
+call-unchanged (move (run k) t s b) why m x g =
+    stayed (judge (runRows t s b k)) (walk.worked k b) (walk.steps k b) b (g .0 .0) (g .1)
+call-unchanged (move (run-back k) t s b) why m x g =
     stayed (judge (runRows t s b k)) (back.workedBack k b) (back.stepsBack k b) b (g .0 .0) (g .1)
-call-unchanged (run-back-changed t s b k) why m x g = g .1
+call-unchanged (changed way t s b) why m x g = g .1
 call-unchanged (explain t s b) why m x g = g .1
 call-unchanged (number t s b) why m x g = g .1
 call-unchanged (form t s n out) why m x g = g .1 ∙ ap (λ (l : List ℕ). l ∷ []) (still _ (g .0 .0) _ out)
@@ -132,14 +127,8 @@ pub call-silent : (c : Call) (why : Refusal) (m : List ℕ) (x : List (List ℕ)
     → (i : ℕ) → getD (silenced c m) i 0 ≡ 0
 call-silent (count t s) why m x g i = no-value (counting t s) why m (g .0) i
 call-silent (check t s b) why m x g i = no-numbers m (g .0 .1) i
-call-silent (next t s b) why m x g i = no-value (nextAnswer t s b) why m (g .0) i
-call-silent (changed t s b) why m x g i = no-value (nextAnswer t s b) why m (g .0) i
-call-silent (run t s b k) why m x g i = no-value (runAnswer t s b k) why m (g .0) i
-call-silent (run-changed t s b k) why m x g i = no-value (runAnswer t s b k) why m (g .0) i
-call-silent (previous t s b) why m x g i = no-value (previousAnswer t s b) why m (g .0) i
-call-silent (previous-changed t s b) why m x g i = no-value (previousAnswer t s b) why m (g .0) i
-call-silent (run-back t s b k) why m x g i = no-value (runBackAnswer t s b k) why m (g .0) i
-call-silent (run-back-changed t s b k) why m x g i = no-value (runBackAnswer t s b k) why m (g .0) i
+call-silent (move way t s b) why m x g i = no-value (moveAnswer way t s b) why m (g .0) i
+call-silent (changed way t s b) why m x g i = no-value (moveAnswer way t s b) why m (g .0) i
 call-silent (explain t s b) why m x g i = by (checked t s b) (g .0 .0) (g .0 .1)
   where
     zeros : (i : ℕ) → _≡_ {A = ℕ} (getD (0 ∷ []) i 0) 0
@@ -177,14 +166,8 @@ pub call-one : (c : Call) (v w : Verdict) (m k : List ℕ) (x y : List (List ℕ
     → (v ≡ w) × (m ≡ k) × (x ≡ y)
 call-one (count t s) v w m k x y g h = same g h
 call-one (check t s b) v w m k x y g h = same g h
-call-one (next t s b) v w m k x y g h = same g h
-call-one (changed t s b) v w m k x y g h = same g h
-call-one (run t s b n) v w m k x y g h = same g h
-call-one (run-changed t s b n) v w m k x y g h = same g h
-call-one (previous t s b) v w m k x y g h = same g h
-call-one (previous-changed t s b) v w m k x y g h = same g h
-call-one (run-back t s b n) v w m k x y g h = same g h
-call-one (run-back-changed t s b n) v w m k x y g h = same g h
+call-one (move way t s b) v w m k x y g h = same g h
+call-one (changed way t s b) v w m k x y g h = same g h
 call-one (explain t s b) v w m k x y g h = same g h
 call-one (number t s b) v w m k x y g h = same g h
 call-one (form t s n out) v w m k x y g h = same g h

@@ -18,7 +18,10 @@ use Rattle.refusal.specs.declared.Verdict.{Verdict}
 use Rattle.circle.specs.Step.{top}
 use Rattle.circle.proofs.Circle.{top-schedule}
 use Rattle.record.specs.Bytes.{lowFirst, valueOf}
+use Rattle.demands.specs.Calls as call
 use Rattle.demands.specs.Calls.{
+  moveAnswer,
+  moveLeft,
   count,
   check,
   form-on-sheet,
@@ -31,9 +34,7 @@ use Rattle.demands.specs.Calls.{
   CountsOf,
   of-count,
   of-check,
-  of-next,
-  of-run,
-  of-run-back,
+  of-move,
   of-explain,
   BeatsOf,
   in-check,
@@ -120,6 +121,23 @@ not-numbers = numbering-110
 
 not-links : Holds (links (1 ∷ 0 ∷ 0 ∷ []) (0 ∷ []) (0 ∷ []) (0 ∷ [])) → ⊥
 not-links p = omega (arith, has-closed p .size)
+
+-- a step from 110 changes two beats and leaves 101; a run of no step changes none
+moves-2 : moveAnswer call.next 2 1 (1 ∷ 1 ∷ 0 ∷ []) ≡ Answer.Value 2
+unfolding every firstFrom ones zeros isSchedule shift found has01 movesNext next changed
+moves-2 = refl
+
+moves-0 : moveAnswer (call.run 0) 2 1 (1 ∷ 1 ∷ 0 ∷ []) ≡ Answer.Value 0
+unfolding firstFrom ones zeros worked
+moves-0 = refl
+
+leaves-101 : moveLeft call.next 2 1 (1 ∷ 1 ∷ 0 ∷ []) ≡ 1 ∷ 0 ∷ 1 ∷ []
+unfolding every firstFrom ones zeros isSchedule shift found has01 movesNext next
+leaves-101 = refl
+
+leaves-110 : moveLeft (call.run 0) 2 1 (1 ∷ 1 ∷ 0 ∷ []) ≡ 1 ∷ 1 ∷ 0 ∷ []
+unfolding firstFrom ones zeros steps
+leaves-110 = refl
 
 -- what is lent to a check and to a count; what is 0 after a refused count and after a refused read
 lent-beats : lent (check 1 0 (1 ∷ [])) ≡ (1 ∷ []) ∷ []
@@ -211,7 +229,8 @@ demand-2-3 = demands .second 3 2 (omega arith, omega arith)
 demand-2-200 : Demand2 200 0 → ⊥
 demand-2-200 p = omega (
   arith,
-  accepted-counts {t = 200} {s = 0} _ _ of-next (p .next-form (top 200 0) (top-schedule 200 0 (omega arith))) .0,
+  accepted-counts {t = 200} {s = 0} _ _ (of-move {way = call.next})
+      (p .next-form (top 200 0) (top-schedule 200 0 (omega arith))) .0,
 )
 
 demand-3-all-3 : Demand3All 3 2
@@ -220,7 +239,7 @@ demand-3-all-3 = demands .third-all 3 2 (omega arith, omega arith)
 demand-3-all-200 : Demand3All 200 0 → ⊥
 demand-3-all-200 p = omega (
   arith,
-  accepted-counts {t = 200} {s = 0} _ _ (of-run {k = 0})
+  accepted-counts {t = 200} {s = 0} _ _ (of-move {way = call.run 0})
       (p .run-given (top 200 0) 0 (top-schedule 200 0 (omega arith)) (omega arith)) .0,
 )
 
@@ -241,7 +260,7 @@ backwards-3 = backwards 3 2 (omega arith, omega arith)
 backwards-200 : Backwards 200 0 → ⊥
 backwards-200 p = omega (
   arith,
-  accepted-counts {t = 200} {s = 0} _ _ (of-run-back {k = 0})
+  accepted-counts {t = 200} {s = 0} _ _ (of-move {way = call.run-back 0})
       (p .run-back-given (top 200 0) 0 (top-schedule 200 0 (omega arith)) (omega arith)) .0,
 )
 

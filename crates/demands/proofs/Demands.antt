@@ -37,7 +37,7 @@ use Rattle.number.proofs.Numbers.{form-schedule}
 use Rattle.number.proofs.Theorems.{number-fewest, number-below, S-number}
 use Rattle.form.proofs.Verdicts.{form-allowed}
 use Rattle.form.proofs.Agreement.{form-accepted, asked-numbered, numbered-asked, walked-asked}
-use Rattle.demands.specs.Calls.{number, form, run, Gives}
+use Rattle.demands.specs.Calls.{number, form, move, run, Gives}
 use Rattle.demands.specs.Demands.{Demand1, Demand2, Demand3, Demand3All, Demands}
 use Rattle.demands.proofs.Calls.{call-unchanged, call-silent, call-one}
 use Rattle.demands.proofs.Accepted.{taken, call-refused}
@@ -115,7 +115,7 @@ module _ (t s : ℕ) (a : Allowed t s) where
           )
 
       walks : (n k : ℕ) (out a' b m : List ℕ) → Gives (form t s n out) Verdict.Accepted [] (a' ∷ [])
-          → Gives (run t s a' k) Verdict.Accepted m (b ∷ [])
+          → Gives (move (run k) t s a') Verdict.Accepted m (b ∷ [])
           → Gives (form t s ((n + k) % N t s) out) Verdict.Accepted [] (b ∷ [])
       walks n k out a' b m g h =
           let long = form-allowed t s n out (sym (g .0 .0)) .1 in

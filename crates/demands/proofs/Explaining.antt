@@ -19,11 +19,11 @@ use Rattle.circle.proofs.Forms.{own-counts}
 use Rattle.reason.specs.Explanation.{explanationOf}
 use Rattle.reason.specs.Answers.{unless-refused, numbers}
 use Rattle.reason.proofs.Theorems.{explains, explains-one, moving-next, changing-next, changed-count}
-use Rattle.demands.specs.Calls.{next, explain, Gives}
+use Rattle.demands.specs.Calls.{move, next, explain, Gives}
 use Rattle.demands.specs.Explaining.{Explaining}
 
 -- what an accepted step says
-module _ (t s : ℕ) (b : List ℕ) {c m : List ℕ} (g : Gives (next t s b) Verdict.Accepted m (c ∷ [])) where
+module _ (t s : ℕ) (b : List ℕ) {c m : List ℕ} (g : Gives (move next t s b) Verdict.Accepted m (c ∷ [])) where
   passed : checked t s b ≡ Verdict.Accepted
   passed = sym (g .0 .0 ∙ verdict-answer (checked t s b) (walk.changed b (rule.next b)))
 
@@ -58,7 +58,7 @@ explaining t s a = record {
   refused-alike = alike;
 }
   where
-    alike : (b : List ℕ) (why : Refusal) (m : List ℕ) → Gives (next t s b) (Verdict.Refused why) m (b ∷ [])
+    alike : (b : List ℕ) (why : Refusal) (m : List ℕ) → Gives (move next t s b) (Verdict.Refused why) m (b ∷ [])
         → Gives (explain t s b) (Verdict.Refused why) m (b ∷ [])
     alike b why m g =
         let n = walk.changed b (rule.next b) in

@@ -41,7 +41,7 @@ use Rattle.tree_back.specs.Back.{Untreed}
 use Rattle.tree_back.specs.Back as back
 use Rattle.tree_back.proofs.Theorems.{untreed-one}
 use Rattle.record.specs.Bytes.{lowFirst, valueOf, tabulate}
-use Rattle.demands.specs.Calls.{count, check, next, changed, run, run-changed, number, form, form-on-sheet, Gives}
+use Rattle.demands.specs.Calls.{count, check, move, next, run, changed, number, form, form-on-sheet, Gives}
 use Rattle.demands.specs.Calls.{tree, schedule-of-tree, read, write}
 
 -- forms of (3,2), the two of (2,2), what is lent to be written into, and a record of (3,2) that holds a number
@@ -103,19 +103,19 @@ module _ (why : Refusal) (m : List ℕ) (x : List (List ℕ)) where
   unfolding firstFrom ones zeros
   check-refusing g = never (g .0 .0)
 
-  pub next-refusing : Gives (next 3 2 form-11100) (Verdict.Refused why) m x → ⊥
+  pub next-refusing : Gives (move next 3 2 form-11100) (Verdict.Refused why) m x → ⊥
   unfolding firstFrom ones zeros
   next-refusing g = never (g .0 .0)
 
-  pub changed-refusing : Gives (changed 3 2 form-11100) (Verdict.Refused why) m x → ⊥
+  pub changed-refusing : Gives (changed next 3 2 form-11100) (Verdict.Refused why) m x → ⊥
   unfolding firstFrom ones zeros
   changed-refusing g = never (g .0 .0)
 
-  pub run-refusing : Gives (run 3 2 form-11100 2) (Verdict.Refused why) m x → ⊥
+  pub run-refusing : Gives (move (run 2) 3 2 form-11100) (Verdict.Refused why) m x → ⊥
   unfolding firstFrom ones zeros
   run-refusing g = never (g .0 .0)
 
-  pub run-changed-refusing : Gives (run-changed 3 2 form-11100 2) (Verdict.Refused why) m x → ⊥
+  pub run-changed-refusing : Gives (changed (run 2) 3 2 form-11100) (Verdict.Refused why) m x → ⊥
   unfolding firstFrom ones zeros
   run-changed-refusing g = never (g .0 .0)
 
@@ -165,20 +165,22 @@ module _ (v w : Verdict) (n : ℕ) (x y : List (List ℕ)) where
   unfolding N
   count-fixed g h = let z : _≡_ {A = ℕ} 28 572 = cc (g .0 .1, h .0 .1) in omega arith
 
-  pub next-fixed : Gives (next 3 2 form-11100) v (n ∷ []) x → Gives (next 3 2 form-11010) w (n ∷ []) y → ⊥
+  pub next-fixed : Gives (move next 3 2 form-11100) v (n ∷ []) x → Gives (move next 3 2 form-11010) w (n ∷ []) y → ⊥
   unfolding every firstFrom ones zeros isSchedule shift found has01 movesNext rule.next walk.changed
   next-fixed g h = let z : _≡_ {A = ℕ} 2 4 = cc (g .0 .1, h .0 .1) in omega arith
 
-  pub changed-fixed : Gives (changed 3 2 form-11100) v (n ∷ []) x → Gives (changed 3 2 form-11010) w (n ∷ []) y → ⊥
+  pub changed-fixed :
+      Gives (changed next 3 2 form-11100) v (n ∷ []) x → Gives (changed next 3 2 form-11010) w (n ∷ []) y → ⊥
   unfolding every firstFrom ones zeros isSchedule shift found has01 movesNext rule.next walk.changed
   changed-fixed g h = let z : _≡_ {A = ℕ} 2 4 = cc (g .0 .1, h .0 .1) in omega arith
 
-  pub run-fixed : Gives (run 3 2 form-11100 1) v (n ∷ []) x → Gives (run 3 2 form-11100 2) w (n ∷ []) y → ⊥
+  pub run-fixed :
+      Gives (move (run 1) 3 2 form-11100) v (n ∷ []) x → Gives (move (run 2) 3 2 form-11100) w (n ∷ []) y → ⊥
   unfolding every firstFrom ones zeros isSchedule shift found has01 movesNext rule.next walk.changed steps worked
   run-fixed g h = let z : _≡_ {A = ℕ} 2 4 = cc (g .0 .1, h .0 .1) in omega arith
 
   pub run-changed-fixed :
-      Gives (run-changed 3 2 form-11100 1) v (n ∷ []) x → Gives (run-changed 3 2 form-11100 2) w (n ∷ []) y → ⊥
+      Gives (changed (run 1) 3 2 form-11100) v (n ∷ []) x → Gives (changed (run 2) 3 2 form-11100) w (n ∷ []) y → ⊥
   unfolding every firstFrom ones zeros isSchedule shift found has01 movesNext rule.next walk.changed steps worked
   run-changed-fixed g h = let z : _≡_ {A = ℕ} 2 4 = cc (g .0 .1, h .0 .1) in omega arith
 
@@ -198,11 +200,13 @@ module _ (v w : Verdict) (n : ℕ) (x y : List (List ℕ)) where
 
 -- [P6d] leaves one fixed form l, or l in its table or record: at one place the right ones differ, as the proof says
 module _ (v w : Verdict) (m k l : List ℕ) where
-  pub next-fixed-form : Gives (next 3 2 form-11100) v m (l ∷ []) → Gives (next 3 2 form-10110) w k (l ∷ []) → ⊥
+  pub next-fixed-form :
+      Gives (move next 3 2 form-11100) v m (l ∷ []) → Gives (move next 3 2 form-10110) w k (l ∷ []) → ⊥
   unfolding every firstFrom ones zeros isSchedule shift found has01 movesNext rule.next
   next-fixed-form g h = let z : _≡_ {A = ℕ} 0 1 = cc (g .1, h .1) in omega arith
 
-  pub run-fixed-form : Gives (run 3 2 form-11100 1) v m (l ∷ []) → Gives (run 3 2 form-11100 2) w k (l ∷ []) → ⊥
+  pub run-fixed-form :
+      Gives (move (run 1) 3 2 form-11100) v m (l ∷ []) → Gives (move (run 2) 3 2 form-11100) w k (l ∷ []) → ⊥
   unfolding every firstFrom ones zeros isSchedule shift found has01 movesNext rule.next steps
   run-fixed-form g h = let z : _≡_ {A = ℕ} 0 1 = cc (g .1, h .1) in omega arith
 
@@ -244,37 +248,37 @@ module _ (v w : Verdict) (m k l : List ℕ) where
 
 -- [P6a] the next form is the form that was given, and so no beat changes: after 11100 comes 10110, and two beats change
 module _ (v : Verdict) (m : List ℕ) (x : List (List ℕ)) where
-  pub next-still : Gives (next 3 2 form-11100) v m (form-11100 ∷ []) → ⊥
+  pub next-still : Gives (move next 3 2 form-11100) v m (form-11100 ∷ []) → ⊥
   unfolding every firstFrom ones zeros isSchedule shift found has01 movesNext rule.next
   next-still g = let z : _≡_ {A = ℕ} 1 0 = cc (g .1) in omega arith
 
-  pub run-still : Gives (run 3 2 form-11100 1) v m (form-11100 ∷ []) → ⊥
+  pub run-still : Gives (move (run 1) 3 2 form-11100) v m (form-11100 ∷ []) → ⊥
   unfolding every firstFrom ones zeros isSchedule shift found has01 movesNext rule.next steps
   run-still g = let z : _≡_ {A = ℕ} 1 0 = cc (g .1) in omega arith
 
-  pub changed-still : Gives (changed 3 2 form-11100) v (0 ∷ []) x → ⊥
+  pub changed-still : Gives (changed next 3 2 form-11100) v (0 ∷ []) x → ⊥
   unfolding every firstFrom ones zeros isSchedule shift found has01 movesNext rule.next walk.changed
   changed-still g = let z : _≡_ {A = ℕ} 0 2 = cc (g .0 .1) in omega arith
 
-  pub run-changed-still : Gives (run-changed 3 2 form-11100 1) v (0 ∷ []) x → ⊥
+  pub run-changed-still : Gives (changed (run 1) 3 2 form-11100) v (0 ∷ []) x → ⊥
   unfolding every firstFrom ones zeros isSchedule shift found has01 movesNext rule.next walk.changed steps worked
   run-changed-still g = let z : _≡_ {A = ℕ} 0 2 = cc (g .0 .1) in omega arith
 
   -- [P6b] of two steps the first alone: that leaves 10110, and not 11010, and changes 2 beats, and not 4
-  pub run-first-step : Gives (run 3 2 form-11100 2) v m (rule.next form-11100 ∷ []) → ⊥
+  pub run-first-step : Gives (move (run 2) 3 2 form-11100) v m (rule.next form-11100 ∷ []) → ⊥
   unfolding every firstFrom ones zeros isSchedule shift found has01 movesNext rule.next steps
   run-first-step g = let z : _≡_ {A = ℕ} 0 1 = cc (g .1) in omega arith
 
   pub run-changed-first-step :
-      Gives (run-changed 3 2 form-11100 2) v (walk.changed form-11100 (rule.next form-11100) ∷ []) x → ⊥
+      Gives (changed (run 2) 3 2 form-11100) v (walk.changed form-11100 (rule.next form-11100) ∷ []) x → ⊥
   unfolding every firstFrom ones zeros isSchedule shift found has01 movesNext rule.next walk.changed steps worked
   run-changed-first-step g = let z : _≡_ {A = ℕ} 2 4 = cc (g .0 .1) in omega arith
 
   -- [P6c] twice its length: one step from 11010 changes 4 beats, and not 2
-  pub run-twice : Gives (run 3 2 form-11010 1) v (2 * 1 ∷ []) x → ⊥
+  pub run-twice : Gives (move (run 1) 3 2 form-11010) v (2 * 1 ∷ []) x → ⊥
   unfolding every firstFrom ones zeros isSchedule shift found has01 movesNext rule.next walk.changed steps worked
   run-twice g = let z : _≡_ {A = ℕ} 2 4 = cc (g .0 .1) in omega arith
 
-  pub run-changed-twice : Gives (run-changed 3 2 form-11010 1) v (2 * 1 ∷ []) x → ⊥
+  pub run-changed-twice : Gives (changed (run 1) 3 2 form-11010) v (2 * 1 ∷ []) x → ⊥
   unfolding every firstFrom ones zeros isSchedule shift found has01 movesNext rule.next walk.changed steps worked
   run-changed-twice g = let z : _≡_ {A = ℕ} 2 4 = cc (g .0 .1) in omega arith

@@ -27,7 +27,7 @@ use Rattle.circle.specs.Step as rule
 use Rattle.circle.specs.Walk as walk
 use Rattle.circle.specs.Back.{unshift, afterFound, beforeFound, fits, stepsBack, workedBack}
 use Rattle.circle.specs.Back as back
-use Rattle.demands.specs.Calls.{previous, previous-changed, run-back, run-back-changed, Gives}
+use Rattle.demands.specs.Calls.{move, previous, run-back, changed, Gives}
 use Rattle.demands.proofs.Shams.{never}
 
 -- the first and the fourth form of (3,2), and the forms before them
@@ -79,98 +79,99 @@ two-worked = omega (arith, one-worked, ap₂ walk.changed one-back two-back)
 
 -- [P3] refuses everything
 module _ (why : Refusal) (m : List ℕ) (x : List (List ℕ)) where
-  pub previous-refusing : Gives (previous 3 2 form-11100) (Verdict.Refused why) m x → ⊥
+  pub previous-refusing : Gives (move previous 3 2 form-11100) (Verdict.Refused why) m x → ⊥
   unfolding firstFrom ones zeros
   previous-refusing g = never (g .0 .0)
 
-  pub previous-changed-refusing : Gives (previous-changed 3 2 form-11100) (Verdict.Refused why) m x → ⊥
+  pub previous-changed-refusing : Gives (changed previous 3 2 form-11100) (Verdict.Refused why) m x → ⊥
   unfolding firstFrom ones zeros
   previous-changed-refusing g = never (g .0 .0)
 
-  pub run-back-refusing : Gives (run-back 3 2 form-11100 2) (Verdict.Refused why) m x → ⊥
+  pub run-back-refusing : Gives (move (run-back 2) 3 2 form-11100) (Verdict.Refused why) m x → ⊥
   unfolding firstFrom ones zeros
   run-back-refusing g = never (g .0 .0)
 
-  pub run-back-changed-refusing : Gives (run-back-changed 3 2 form-11100 2) (Verdict.Refused why) m x → ⊥
+  pub run-back-changed-refusing : Gives (changed (run-back 2) 3 2 form-11100) (Verdict.Refused why) m x → ⊥
   unfolding firstFrom ones zeros
   run-back-changed-refusing g = never (g .0 .0)
 
 -- [P5] answers one fixed number n
 module _ (v w : Verdict) (n : ℕ) (x y : List (List ℕ)) where
-  pub previous-fixed : Gives (previous 3 2 form-11100) v (n ∷ []) x → Gives (previous 3 2 form-10101) w (n ∷ []) y → ⊥
+  pub previous-fixed :
+      Gives (move previous 3 2 form-11100) v (n ∷ []) x → Gives (move previous 3 2 form-10101) w (n ∷ []) y → ⊥
   unfolding firstFrom ones zeros
   previous-fixed g h = let z : _≡_ {A = ℕ} 2 4 = cc (g .0 .1, h .0 .1, changed-2, changed-4) in omega arith
 
   pub previous-changed-fixed :
-      Gives (previous-changed 3 2 form-11100) v (n ∷ []) x → Gives (previous-changed 3 2 form-10101) w (n ∷ []) y → ⊥
+      Gives (changed previous 3 2 form-11100) v (n ∷ []) x → Gives (changed previous 3 2 form-10101) w (n ∷ []) y → ⊥
   unfolding firstFrom ones zeros
   previous-changed-fixed g h = let z : _≡_ {A = ℕ} 2 4 = cc (g .0 .1, h .0 .1, changed-2, changed-4) in omega arith
 
   pub run-back-fixed :
-      Gives (run-back 3 2 form-11100 1) v (n ∷ []) x → Gives (run-back 3 2 form-11100 2) w (n ∷ []) y → ⊥
+      Gives (move (run-back 1) 3 2 form-11100) v (n ∷ []) x → Gives (move (run-back 2) 3 2 form-11100) w (n ∷ []) y → ⊥
   unfolding firstFrom ones zeros
   run-back-fixed g h = let z : _≡_ {A = ℕ} 2 4 = cc (g .0 .1, h .0 .1, one-worked, two-worked) in omega arith
 
-  pub run-back-changed-fixed : Gives (run-back-changed 3 2 form-11100 1) v (n ∷ []) x
-      → Gives (run-back-changed 3 2 form-11100 2) w (n ∷ []) y → ⊥
+  pub run-back-changed-fixed : Gives (changed (run-back 1) 3 2 form-11100) v (n ∷ []) x
+      → Gives (changed (run-back 2) 3 2 form-11100) w (n ∷ []) y → ⊥
   unfolding firstFrom ones zeros
   run-back-changed-fixed g h = let z : _≡_ {A = ℕ} 2 4 = cc (g .0 .1, h .0 .1, one-worked, two-worked) in omega arith
 
 -- [P6d] leaves one fixed form l
 module _ (v w : Verdict) (m k l : List ℕ) where
   pub previous-fixed-form :
-      Gives (previous 3 2 form-11100) v m (l ∷ []) → Gives (previous 3 2 form-10101) w k (l ∷ []) → ⊥
+      Gives (move previous 3 2 form-11100) v m (l ∷ []) → Gives (move previous 3 2 form-10101) w k (l ∷ []) → ⊥
   unfolding firstFrom ones zeros
   previous-fixed-form g h = let z : _≡_ {A = ℕ} 0 1 = cc (g .1, h .1, before-11100, before-10101) in omega arith
 
   pub run-back-fixed-form :
-      Gives (run-back 3 2 form-11100 1) v m (l ∷ []) → Gives (run-back 3 2 form-11100 2) w k (l ∷ []) → ⊥
+      Gives (move (run-back 1) 3 2 form-11100) v m (l ∷ []) → Gives (move (run-back 2) 3 2 form-11100) w k (l ∷ []) → ⊥
   unfolding firstFrom ones zeros
   run-back-fixed-form g h = let z : _≡_ {A = ℕ} 1 0 = cc (g .1, h .1, one-back, two-back) in omega arith
 
 module _ (v : Verdict) (m : List ℕ) (x : List (List ℕ)) where
   -- [P6a] the previous form is the form that was given, and so no beat changes
-  pub previous-still : Gives (previous 3 2 form-11100) v m (form-11100 ∷ []) → ⊥
+  pub previous-still : Gives (move previous 3 2 form-11100) v m (form-11100 ∷ []) → ⊥
   unfolding firstFrom ones zeros
   previous-still g = let z : _≡_ {A = ℕ} 1 0 = cc (g .1, before-11100) in omega arith
 
-  pub run-back-still : Gives (run-back 3 2 form-11100 1) v m (form-11100 ∷ []) → ⊥
+  pub run-back-still : Gives (move (run-back 1) 3 2 form-11100) v m (form-11100 ∷ []) → ⊥
   unfolding firstFrom ones zeros
   run-back-still g = let z : _≡_ {A = ℕ} 1 0 = cc (g .1, one-back) in omega arith
 
-  pub previous-changed-still : Gives (previous-changed 3 2 form-11100) v (0 ∷ []) x → ⊥
+  pub previous-changed-still : Gives (changed previous 3 2 form-11100) v (0 ∷ []) x → ⊥
   unfolding firstFrom ones zeros
   previous-changed-still g = let z : _≡_ {A = ℕ} 0 2 = cc (g .0 .1, changed-2) in omega arith
 
-  pub run-back-changed-still : Gives (run-back-changed 3 2 form-11100 1) v (0 ∷ []) x → ⊥
+  pub run-back-changed-still : Gives (changed (run-back 1) 3 2 form-11100) v (0 ∷ []) x → ⊥
   unfolding firstFrom ones zeros
   run-back-changed-still g = let z : _≡_ {A = ℕ} 0 2 = cc (g .0 .1, one-worked) in omega arith
 
   -- [P6b] of two steps the first alone: that leaves 11001, and not 10101, and changes 2 beats, and not 4
-  pub run-back-first-step : Gives (run-back 3 2 form-11100 2) v m (back.previous form-11100 ∷ []) → ⊥
+  pub run-back-first-step : Gives (move (run-back 2) 3 2 form-11100) v m (back.previous form-11100 ∷ []) → ⊥
   unfolding firstFrom ones zeros
   run-back-first-step g = let z : _≡_ {A = ℕ} 1 0 = cc (g .1, before-11100, two-back) in omega arith
 
   pub run-back-changed-first-step :
-      Gives (run-back-changed 3 2 form-11100 2) v (walk.changed form-11100 (back.previous form-11100) ∷ []) x → ⊥
+      Gives (changed (run-back 2) 3 2 form-11100) v (walk.changed form-11100 (back.previous form-11100) ∷ []) x → ⊥
   unfolding firstFrom ones zeros
   run-back-changed-first-step g = let z : _≡_ {A = ℕ} 2 4 = cc (g .0 .1, changed-2, two-worked) in omega arith
 
   -- [P6c] twice its length: one step back from 10101 changes 4 beats, and not 2
-  pub run-back-twice : Gives (run-back 3 2 form-10101 1) v (2 * 1 ∷ []) x → ⊥
+  pub run-back-twice : Gives (move (run-back 1) 3 2 form-10101) v (2 * 1 ∷ []) x → ⊥
   unfolding firstFrom ones zeros
   run-back-twice g = let z : _≡_ {A = ℕ} 2 4 = cc (g .0 .1, one-worked-4) in omega arith
 
-  pub run-back-changed-twice : Gives (run-back-changed 3 2 form-10101 1) v (2 * 1 ∷ []) x → ⊥
+  pub run-back-changed-twice : Gives (changed (run-back 1) 3 2 form-10101) v (2 * 1 ∷ []) x → ⊥
   unfolding firstFrom ones zeros
   run-back-changed-twice g = let z : _≡_ {A = ℕ} 2 4 = cc (g .0 .1, one-worked-4) in omega arith
 
   -- [V14] the previous form is the next one, 10110
-  pub previous-is-next : Gives (previous 3 2 form-11100) v m (rule.next form-11100 ∷ []) → ⊥
+  pub previous-is-next : Gives (move previous 3 2 form-11100) v m (rule.next form-11100 ∷ []) → ⊥
   unfolding every firstFrom ones zeros isSchedule shift movesNext found has01 rule.next
   previous-is-next g = let z : _≡_ {A = ℕ} 0 1 = cc (g .1, before-11100) in omega arith
 
   -- [V14] what one step back from 11100 changes, counted twice
-  pub run-back-counted-twice : Gives (run-back 3 2 form-11100 1) v (2 * workedBack 1 form-11100 ∷ []) x → ⊥
+  pub run-back-counted-twice : Gives (move (run-back 1) 3 2 form-11100) v (2 * workedBack 1 form-11100 ∷ []) x → ⊥
   unfolding firstFrom ones zeros
   run-back-counted-twice g = let z : _≡_ {A = ℕ} 4 2 = cc (g .0 .1, one-worked) in omega arith

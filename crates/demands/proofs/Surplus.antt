@@ -35,14 +35,14 @@ use Rattle.demands.specs.Calls.{
   Call,
   count,
   check,
+  Move,
   next,
-  changed,
-  run,
-  run-changed,
   previous,
-  previous-changed,
+  run,
   run-back,
-  run-back-changed,
+  moveAnswer,
+  move,
+  changed,
   explain,
   number,
   form,
@@ -53,27 +53,15 @@ use Rattle.demands.specs.Calls.{
   write,
   Gives,
   of-check,
-  of-next,
+  of-move,
   of-changed,
-  of-run,
-  of-run-changed,
-  of-previous,
-  of-previous-changed,
-  of-run-back,
-  of-run-back-changed,
   of-explain,
   of-number,
   of-tree,
   of-write,
   in-check,
-  in-next,
+  in-move,
   in-changed,
-  in-run,
-  in-run-changed,
-  in-previous,
-  in-previous-changed,
-  in-run-back,
-  in-run-back-changed,
   in-explain,
   in-number,
   in-tree,
@@ -105,6 +93,13 @@ run-sixes t s b k =
     let long = (ltb mostSteps k ⇒ RunTooLong) ∷ [] in
     all-join (Six (Off t b)) (checkRows t s b) long (check-sixes t b s) (sixless-all (Off t b) long refl)
 
+move-six : {c : Call} (way : Move) (t s : ℕ) (b : List ℕ) → About c t b → {v : Verdict}
+    → v ≡ verdict (moveAnswer way t s b) → refusal v ≡ 6 → (u : ℕ) × (a : List ℕ) × About c u a × Off u a (surplus v)
+move-six next t s b about = answers about (checkRows t s b) (check-sixes t b s) _
+move-six previous t s b about = answers about (checkRows t s b) (check-sixes t b s) _
+move-six (run k) t s b about = answers about (runRows t s b k) (run-sixes t s b k) _
+move-six (run-back k) t s b about = answers about (runRows t s b k) (run-sixes t s b k) _
+
 write-sixes : (kind t s : ℕ) (b out : List ℕ) → All (Six (Off t b)) (writeRows kind t s b out)
 write-sixes kind t s b out =
     let short = roomRow (recordOf kind t s b) out ∷ [] in
@@ -133,24 +128,12 @@ passes-six : (c : Call) (v : Verdict) (m : List ℕ) (x : List (List ℕ)) → G
 passes-six (count t s) v m x g =
     never (countRows t s) refl (g .0 .0 ∙ verdict-answer (judge (countRows t s)) (N t s))
 passes-six (check t s b) v m x g = says (lent-to of-check in-check) (checkRows t s b) (check-sixes t b s) (g .0 .0)
-passes-six (next t s b) v m x g = answers (lent-to of-next in-next) (checkRows t s b) (check-sixes t b s) _ (g .0 .0)
-passes-six (changed t s b) v m x g =
-    answers (lent-to of-changed in-changed) (checkRows t s b) (check-sixes t b s) _ (g .0 .0)
-passes-six (previous t s b) v m x g =
-    answers (lent-to of-previous in-previous) (checkRows t s b) (check-sixes t b s) _ (g .0 .0)
-passes-six (previous-changed t s b) v m x g =
-    answers (lent-to of-previous-changed in-previous-changed) (checkRows t s b) (check-sixes t b s) _ (g .0 .0)
+passes-six (move way t s b) v m x g = move-six way t s b (lent-to of-move in-move) (g .0 .0)
+passes-six (changed way t s b) v m x g = move-six way t s b (lent-to of-changed in-changed) (g .0 .0)
 passes-six (explain t s b) v m x g =
     says (lent-to of-explain in-explain) (checkRows t s b) (check-sixes t b s) (g .0 .0)
 passes-six (number t s b) v m x g =
     answers (lent-to of-number in-number) (checkRows t s b) (check-sixes t b s) _ (g .0 .0)
-passes-six (run t s b k) v m x g = answers (lent-to of-run in-run) (runRows t s b k) (run-sixes t s b k) _ (g .0 .0)
-passes-six (run-changed t s b k) v m x g =
-    answers (lent-to of-run-changed in-run-changed) (runRows t s b k) (run-sixes t s b k) _ (g .0 .0)
-passes-six (run-back t s b k) v m x g =
-    answers (lent-to of-run-back in-run-back) (runRows t s b k) (run-sixes t s b k) _ (g .0 .0)
-passes-six (run-back-changed t s b k) v m x g =
-    answers (lent-to of-run-back-changed in-run-back-changed) (runRows t s b k) (run-sixes t s b k) _ (g .0 .0)
 passes-six (form t s n out) v m x g = never (formRows t s n out) refl (g .0 .0)
 passes-six (form-on-sheet t s n sheet column) v m x g = never (sheetRows t s n sheet column) refl (g .0 .0)
 passes-six (tree n b l r p) v m x g = tree-six (g .3)

@@ -2,7 +2,11 @@
 -- src/lib.rt proves that of each function. Those that are not here answer a part of these: each C function but
 -- gv_version one number of one of them, by an equation with the same definition, and the functions that take a list of
 -- counts the same; the lines of the lists are `lists`'. Definitions only.
---     Call            an entry point with its numbers and with what is lent to it
+--     Move            a step or a run of k steps, on or back
+--     moveAnswer      the beats that a move changes, or its refusal
+--     moveLeft        the schedule that it leaves
+--     Call            an entry point with its numbers and with what is lent to it; `changed` asks what a move would
+--                     change, and writes nothing
 --     lent            what is lent to a call, list by list
 --     Says            an answer that is one number, or a refusal
 --     Gives           what the contract says of a call: its verdict, the numbers that it answers, and what it leaves in
@@ -31,17 +35,29 @@ use Rattle.record.specs.Record.{ups, downs, writeAnswer, writeLeft}
 use Rattle.reader.specs.Answers.{readAnswer, readLeft}
 use Rattle.record.specs.Parts as said
 
+pub data Move : Type 0 where
+  next : Move
+  previous : Move
+  run : (k : ℕ) → Move
+  run-back : (k : ℕ) → Move
+
+abbrev pub moveAnswer : Move → ℕ → ℕ → List ℕ → Answer
+moveAnswer next t s b = nextAnswer t s b
+moveAnswer previous t s b = previousAnswer t s b
+moveAnswer (run k) t s b = runAnswer t s b k
+moveAnswer (run-back k) t s b = runBackAnswer t s b k
+
+abbrev pub moveLeft : Move → ℕ → ℕ → List ℕ → List ℕ
+moveLeft next t s b = nextLeft t s b
+moveLeft previous t s b = previousLeft t s b
+moveLeft (run k) t s b = runLeft t s b k
+moveLeft (run-back k) t s b = runBackLeft t s b k
+
 pub data Call : Type 0 where
   count : (t s : ℕ) → Call
   check : (t s : ℕ) (beats : List ℕ) → Call
-  next : (t s : ℕ) (beats : List ℕ) → Call
-  changed : (t s : ℕ) (beats : List ℕ) → Call
-  run : (t s : ℕ) (beats : List ℕ) (k : ℕ) → Call
-  run-changed : (t s : ℕ) (beats : List ℕ) (k : ℕ) → Call
-  previous : (t s : ℕ) (beats : List ℕ) → Call
-  previous-changed : (t s : ℕ) (beats : List ℕ) → Call
-  run-back : (t s : ℕ) (beats : List ℕ) (k : ℕ) → Call
-  run-back-changed : (t s : ℕ) (beats : List ℕ) (k : ℕ) → Call
+  move : (way : Move) (t s : ℕ) (beats : List ℕ) → Call
+  changed : (way : Move) (t s : ℕ) (beats : List ℕ) → Call
   explain : (t s : ℕ) (beats : List ℕ) → Call
   number : (t s : ℕ) (beats : List ℕ) → Call
   form : (t s n : ℕ) (out : List ℕ) → Call
@@ -54,14 +70,8 @@ pub data Call : Type 0 where
 abbrev pub lent : Call → List (List ℕ)
 lent (count t s) = []
 lent (check t s b) = b ∷ []
-lent (next t s b) = b ∷ []
-lent (changed t s b) = b ∷ []
-lent (run t s b k) = b ∷ []
-lent (run-changed t s b k) = b ∷ []
-lent (previous t s b) = b ∷ []
-lent (previous-changed t s b) = b ∷ []
-lent (run-back t s b k) = b ∷ []
-lent (run-back-changed t s b k) = b ∷ []
+lent (move way t s b) = b ∷ []
+lent (changed way t s b) = b ∷ []
 lent (explain t s b) = b ∷ []
 lent (number t s b) = b ∷ []
 lent (form t s n out) = out ∷ []
@@ -77,14 +87,8 @@ Says a v m = (v ≡ verdict a) × (m ≡ value a ∷ [])
 abbrev pub Gives : Call → Verdict → List ℕ → List (List ℕ) → Type 0
 Gives (count t s) v m x = Says (counting t s) v m × (x ≡ [])
 Gives (check t s b) v m x = ((v ≡ checked t s b) × (m ≡ [])) × (x ≡ b ∷ [])
-Gives (next t s b) v m x = Says (nextAnswer t s b) v m × (x ≡ nextLeft t s b ∷ [])
-Gives (changed t s b) v m x = Says (nextAnswer t s b) v m × (x ≡ b ∷ [])
-Gives (run t s b k) v m x = Says (runAnswer t s b k) v m × (x ≡ runLeft t s b k ∷ [])
-Gives (run-changed t s b k) v m x = Says (runAnswer t s b k) v m × (x ≡ b ∷ [])
-Gives (previous t s b) v m x = Says (previousAnswer t s b) v m × (x ≡ previousLeft t s b ∷ [])
-Gives (previous-changed t s b) v m x = Says (previousAnswer t s b) v m × (x ≡ b ∷ [])
-Gives (run-back t s b k) v m x = Says (runBackAnswer t s b k) v m × (x ≡ runBackLeft t s b k ∷ [])
-Gives (run-back-changed t s b k) v m x = Says (runBackAnswer t s b k) v m × (x ≡ b ∷ [])
+Gives (move way t s b) v m x = Says (moveAnswer way t s b) v m × (x ≡ moveLeft way t s b ∷ [])
+Gives (changed way t s b) v m x = Says (moveAnswer way t s b) v m × (x ≡ b ∷ [])
 Gives (explain t s b) v m x = ((v ≡ checked t s b) × (m ≡ numbers (explained t s b))) × (x ≡ b ∷ [])
 Gives (number t s b) v m x = Says (numberAnswer t s b) v m × (x ≡ b ∷ [])
 Gives (form t s n out) v m x = ((v ≡ formVerdict t s n out) × (m ≡ [])) × (x ≡ formLeft t s n out ∷ [])
@@ -104,14 +108,8 @@ abbrev pub silenced : Call → List ℕ → List ℕ
 silenced (read src out) m = take 3 m
 silenced (count t s) m = m
 silenced (check t s b) m = m
-silenced (next t s b) m = m
-silenced (changed t s b) m = m
-silenced (run t s b k) m = m
-silenced (run-changed t s b k) m = m
-silenced (previous t s b) m = m
-silenced (previous-changed t s b) m = m
-silenced (run-back t s b k) m = m
-silenced (run-back-changed t s b k) m = m
+silenced (move way t s b) m = m
+silenced (changed way t s b) m = m
 silenced (explain t s b) m = m
 silenced (number t s b) m = m
 silenced (form t s n out) m = m
@@ -123,14 +121,8 @@ silenced (write kind t s b out) m = m
 pub data CountsOf : Call → ℕ → ℕ → Type 0 where
   of-count : {t s : ℕ} → CountsOf (count t s) t s
   of-check : {t s : ℕ} {b : List ℕ} → CountsOf (check t s b) t s
-  of-next : {t s : ℕ} {b : List ℕ} → CountsOf (next t s b) t s
-  of-changed : {t s : ℕ} {b : List ℕ} → CountsOf (changed t s b) t s
-  of-run : {t s : ℕ} {b : List ℕ} {k : ℕ} → CountsOf (run t s b k) t s
-  of-run-changed : {t s : ℕ} {b : List ℕ} {k : ℕ} → CountsOf (run-changed t s b k) t s
-  of-previous : {t s : ℕ} {b : List ℕ} → CountsOf (previous t s b) t s
-  of-previous-changed : {t s : ℕ} {b : List ℕ} → CountsOf (previous-changed t s b) t s
-  of-run-back : {t s : ℕ} {b : List ℕ} {k : ℕ} → CountsOf (run-back t s b k) t s
-  of-run-back-changed : {t s : ℕ} {b : List ℕ} {k : ℕ} → CountsOf (run-back-changed t s b k) t s
+  of-move : {way : Move} {t s : ℕ} {b : List ℕ} → CountsOf (move way t s b) t s
+  of-changed : {way : Move} {t s : ℕ} {b : List ℕ} → CountsOf (changed way t s b) t s
   of-explain : {t s : ℕ} {b : List ℕ} → CountsOf (explain t s b) t s
   of-number : {t s : ℕ} {b : List ℕ} → CountsOf (number t s b) t s
   of-form : {t s n : ℕ} {out : List ℕ} → CountsOf (form t s n out) t s
@@ -142,14 +134,8 @@ pub data CountsOf : Call → ℕ → ℕ → Type 0 where
 
 pub data BeatsOf : Call → List ℕ → Type 0 where
   in-check : {t s : ℕ} {b : List ℕ} → BeatsOf (check t s b) b
-  in-next : {t s : ℕ} {b : List ℕ} → BeatsOf (next t s b) b
-  in-changed : {t s : ℕ} {b : List ℕ} → BeatsOf (changed t s b) b
-  in-run : {t s : ℕ} {b : List ℕ} {k : ℕ} → BeatsOf (run t s b k) b
-  in-run-changed : {t s : ℕ} {b : List ℕ} {k : ℕ} → BeatsOf (run-changed t s b k) b
-  in-previous : {t s : ℕ} {b : List ℕ} → BeatsOf (previous t s b) b
-  in-previous-changed : {t s : ℕ} {b : List ℕ} → BeatsOf (previous-changed t s b) b
-  in-run-back : {t s : ℕ} {b : List ℕ} {k : ℕ} → BeatsOf (run-back t s b k) b
-  in-run-back-changed : {t s : ℕ} {b : List ℕ} {k : ℕ} → BeatsOf (run-back-changed t s b k) b
+  in-move : {way : Move} {t s : ℕ} {b : List ℕ} → BeatsOf (move way t s b) b
+  in-changed : {way : Move} {t s : ℕ} {b : List ℕ} → BeatsOf (changed way t s b) b
   in-explain : {t s : ℕ} {b : List ℕ} → BeatsOf (explain t s b) b
   in-number : {t s : ℕ} {b : List ℕ} → BeatsOf (number t s b) b
   in-tree : {n : ℕ} {b l r p : List ℕ} → BeatsOf (tree n b l r p) b

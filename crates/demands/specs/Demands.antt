@@ -34,7 +34,7 @@ use Rattle.record.specs.declared.layout.Layout.{Layout}
 use Rattle.record.specs.declared.layout.Numbering.{Numbering}
 use Rattle.record.specs.Layout.{numberBytes}
 use Rattle.record.specs.Record.{recordOf, long, layoutIn, ups, downs, body, cut}
-use Rattle.demands.specs.Calls.{Call, count, next, run, number, form, form-on-sheet}
+use Rattle.demands.specs.Calls.{Call, count, move, next, run, number, form, form-on-sheet}
 use Rattle.demands.specs.Calls.{read, write, lent, Gives, silenced, CountsOf, BeatsOf, Owed}
 
 pub data Wrong : Call → Type 0 where
@@ -61,7 +61,7 @@ pub data Wrong : Call → Type 0 where
 -- demand 1: a call takes whatever it is given, and has one answer; what is wrong is refused by a number, and a refused
 -- call leaves all that was lent to it as it was
 pub record Demand1 : Type 0 where
-  pub by-number : (why : Refusal) → (1 ≤ refusalNumber why) × (refusalNumber why ≤ 13)
+  pub by-number : (why : Refusal) → (1 ≤ refusalNumber why) × (refusalNumber why ≤ 15)
   pub refused : (c : Call) (m : List ℕ) (x : List (List ℕ)) → Wrong c → Gives c Verdict.Accepted m x → ⊥
   pub unchanged : (c : Call) (why : Refusal) (m : List ℕ) (x : List (List ℕ)) → Gives c (Verdict.Refused why) m x
       → x ≡ lent c
@@ -76,7 +76,7 @@ pub record Demand1 : Type 0 where
 -- allowed. And what all this is for: walking to a form and asking for it by number give the same schedule
 pub record Demand2 (t s : ℕ) : Type 0 where
   pub next-form : (b : List ℕ) → Schedule t s b
-      → Gives (next t s b) Verdict.Accepted (walk.changed b (rule.next b) ∷ []) (rule.next b ∷ [])
+      → Gives (move next t s b) Verdict.Accepted (walk.changed b (rule.next b) ∷ []) (rule.next b ∷ [])
   pub number-given : (b : List ℕ) → Schedule t s b → (n : ℕ) × Gives (number t s b) Verdict.Accepted (n ∷ []) (b ∷ [])
   pub number-fewest : (b : List ℕ) (n : ℕ) → Gives (number t s b) Verdict.Accepted (n ∷ []) (b ∷ [])
       → Fewest (start t s) b n
@@ -90,7 +90,7 @@ pub record Demand2 (t s : ℕ) : Type 0 where
       → length out ≡ t + s
       → Gives (form t s n out) Verdict.Accepted [] (b ∷ [])
   pub walking-asking : (n k : ℕ) (out a b : List ℕ) (m : List ℕ) → Gives (form t s n out) Verdict.Accepted [] (a ∷ [])
-      → Gives (run t s a k) Verdict.Accepted m (b ∷ [])
+      → Gives (move (run k) t s a) Verdict.Accepted m (b ∷ [])
       → Gives (form t s ((n + k) % N t s) out) Verdict.Accepted [] (b ∷ [])
 
 -- demand 3: as many steps as there are forms meet each form once and come back last to where they began; a step changes
@@ -109,7 +109,7 @@ pub record Demand3All (t s : ℕ) : Type 0 where
   pub counted : Gives (count t s) Verdict.Accepted (N t s ∷ []) []
   pub all-listed : (l : List (List ℕ)) × Lists (Schedule t s) l
   pub run-given : (b : List ℕ) (k : ℕ) → Schedule t s b → k ≤ mostSteps
-      → Gives (run t s b k) Verdict.Accepted (worked k b ∷ []) (steps k b ∷ [])
+      → Gives (move (run k) t s b) Verdict.Accepted (worked k b ∷ []) (steps k b ∷ [])
 
 -- all of it: t from 0 to the largest count and s from 0 to t, but t from 2 and s from 1 for the round
 pub record Demands : Type 0 where

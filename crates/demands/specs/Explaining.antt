@@ -13,7 +13,7 @@ use Rattle.schedule.specs.Schedule.{Schedule}
 use Rattle.reason.specs.Explanation.{Explanation}
 use Rattle.reason.specs.Meaning.{Explains, moving, changing}
 use Rattle.reason.specs.Answers.{numbers}
-use Rattle.demands.specs.Calls.{next, explain, Gives}
+use Rattle.demands.specs.Calls.{move, next, explain, Gives}
 
 pub record Explaining (t s : ℕ) : Type 0 where
   pub told : (b : List ℕ) → Schedule t s b
@@ -21,10 +21,11 @@ pub record Explaining (t s : ℕ) : Type 0 where
   pub only : (b : List ℕ) (e d : Explanation) → Schedule t s b → Explains b e → Explains b d → e ≡ d
   -- what the step leaves and answers
   pub moving-gives : (b c : List ℕ) (e : Explanation) (m : List ℕ) → Explains b e
-      → Gives (next t s b) Verdict.Accepted m (c ∷ []) → moving (e .moved) b ≡ c
+      → Gives (move next t s b) Verdict.Accepted m (c ∷ []) → moving (e .moved) b ≡ c
   pub changing-gives : (b c : List ℕ) (e : Explanation) (m : List ℕ) → Explains b e
-      → Gives (next t s b) Verdict.Accepted m (c ∷ []) → changing (e .changed) b ≡ c
+      → Gives (move next t s b) Verdict.Accepted m (c ∷ []) → changing (e .changed) b ≡ c
   pub changed-counted : (b c : List ℕ) (e : Explanation) (n : ℕ) → Explains b e
-      → Gives (next t s b) Verdict.Accepted (n ∷ []) (c ∷ []) → length (e .changed) ≡ n
-  pub refused-alike : (b : List ℕ) (why : Refusal) (m : List ℕ) → Gives (next t s b) (Verdict.Refused why) m (b ∷ [])
+      → Gives (move next t s b) Verdict.Accepted (n ∷ []) (c ∷ []) → length (e .changed) ≡ n
+  pub refused-alike : (b : List ℕ) (why : Refusal) (m : List ℕ)
+      → Gives (move next t s b) (Verdict.Refused why) m (b ∷ [])
       → Gives (explain t s b) (Verdict.Refused why) m (b ∷ [])

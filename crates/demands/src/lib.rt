@@ -27,55 +27,57 @@ fn check(t: u64, s: u64, beats: &[u8]) -> Verdict
 }
 
 fn next(t: u64, s: u64, beats: &mut [u8]) -> Answer
-    ensures { λ r. ⌜ Gives (call.next t s (now (beats .entry))) (verdict r) (value r ∷ []) (now (beats .exit) ∷ []) ⌝ }
+    ensures { λ r. ⌜ Gives (call.move call.next t s (now (beats .entry))) (verdict r) (value r ∷ [])
+        (now (beats .exit) ∷ []) ⌝ }
 {
     circle::next(t, s, beats)
 }
 
 fn changed(t: u64, s: u64, beats: &[u8]) -> Answer
-    ensures { λ r. ⌜ Gives (call.changed t s (now (beats .entry))) (verdict r) (value r ∷ []) (now (beats .exit)
-        ∷ []) ⌝ }
+    ensures { λ r. ⌜ Gives (call.changed call.next t s (now (beats .entry))) (verdict r) (value r ∷ [])
+        (now (beats .exit) ∷ []) ⌝ }
 {
     circle::changed(t, s, beats)
 }
 
 fn run(t: u64, s: u64, beats: &mut [u8], k: u64) -> Answer
-    ensures { λ r. ⌜ Gives (call.run t s (now (beats .entry)) k) (verdict r) (value r ∷ []) (now (beats .exit) ∷ []) ⌝ }
+    ensures { λ r. ⌜ Gives (call.move (call.run k) t s (now (beats .entry))) (verdict r) (value r ∷ [])
+        (now (beats .exit) ∷ []) ⌝ }
 {
     circle::run(t, s, beats, k)
 }
 
 fn run_changed(t: u64, s: u64, beats: &[u8], k: u64) -> Answer
-    ensures { λ r. ⌜ Gives (call.run-changed t s (now (beats .entry)) k) (verdict r) (value r ∷ []) (now (beats .exit)
-        ∷ []) ⌝ }
+    ensures { λ r. ⌜ Gives (call.changed (call.run k) t s (now (beats .entry))) (verdict r) (value r ∷ [])
+        (now (beats .exit) ∷ []) ⌝ }
 {
     circle::run_changed(t, s, beats, k)
 }
 
 fn previous(t: u64, s: u64, beats: &mut [u8]) -> Answer
-    ensures { λ r. ⌜ Gives (call.previous t s (now (beats .entry))) (verdict r) (value r ∷ []) (now (beats .exit)
-        ∷ []) ⌝ }
+    ensures { λ r. ⌜ Gives (call.move call.previous t s (now (beats .entry))) (verdict r) (value r ∷ [])
+        (now (beats .exit) ∷ []) ⌝ }
 {
     circle_back::previous(t, s, beats)
 }
 
 fn previous_changed(t: u64, s: u64, beats: &[u8]) -> Answer
-    ensures { λ r. ⌜ Gives (call.previous-changed t s (now (beats .entry))) (verdict r) (value r
-        ∷ []) (now (beats .exit) ∷ []) ⌝ }
+    ensures { λ r. ⌜ Gives (call.changed call.previous t s (now (beats .entry))) (verdict r) (value r ∷ [])
+        (now (beats .exit) ∷ []) ⌝ }
 {
     circle_back::previous_changed(t, s, beats)
 }
 
 fn run_back(t: u64, s: u64, beats: &mut [u8], k: u64) -> Answer
-    ensures { λ r. ⌜ Gives (call.run-back t s (now (beats .entry)) k) (verdict r) (value r ∷ []) (now (beats .exit)
-        ∷ []) ⌝ }
+    ensures { λ r. ⌜ Gives (call.move (call.run-back k) t s (now (beats .entry))) (verdict r) (value r ∷ [])
+        (now (beats .exit) ∷ []) ⌝ }
 {
     circle_back::run_back(t, s, beats, k)
 }
 
 fn run_back_changed(t: u64, s: u64, beats: &[u8], k: u64) -> Answer
-    ensures { λ r. ⌜ Gives (call.run-back-changed t s (now (beats .entry)) k) (verdict r) (value r
-        ∷ []) (now (beats .exit) ∷ []) ⌝ }
+    ensures { λ r. ⌜ Gives (call.changed (call.run-back k) t s (now (beats .entry))) (verdict r) (value r ∷ [])
+        (now (beats .exit) ∷ []) ⌝ }
 {
     circle_back::run_back_changed(t, s, beats, k)
 }
