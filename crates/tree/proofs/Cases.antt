@@ -17,6 +17,7 @@ use Rattle.schedule.specs.Schedule.{ones, zeros}
 use Rattle.tree.specs.Tree.{Tree, leaf, node, size, word, root, lefts, rights, parents}
 use Rattle.tree.specs.Table.{Has, fits, sizeRows, lentRows, treeRows, Treed, filled, kept}
 use Rattle.tree.specs.Planting.{adopted}
+use Rattle.tree.specs.Parse.{grow, parse, foremost, treeOf}
 use Rattle.tree.proofs.Theorems.{has-closed, one-tables, treed-one}
 
 -- no node: the empty schedule, and empty tables
@@ -196,3 +197,36 @@ rows-10 = refl
 rows-01 : judge (treeRows 1 (0 ∷ 1 ∷ []) (7 ∷ []) (7 ∷ []) (7 ∷ [])) ≡ Verdict.Refused (EmptyHand 0)
 unfolding firstFrom ones zeros
 rows-01 = refl
+
+-- a 1 joins two trees, and has no place before a single one; what zeros and a 1 make of the trees after them
+grow-2 : grow (leaf ∷ leaf ∷ []) ≡ node leaf leaf ∷ []
+unfolding grow
+grow-2 = refl
+
+grow-1 : grow (leaf ∷ []) ≡ []
+unfolding grow
+grow-1 = refl
+
+parse-100 : parse (1 ∷ 0 ∷ 0 ∷ []) ≡ node leaf leaf ∷ []
+unfolding parse grow
+parse-100 = refl
+
+parse-00 : parse (0 ∷ 0 ∷ []) ≡ leaf ∷ leaf ∷ []
+unfolding parse
+parse-00 = refl
+
+foremost-2 : foremost (node leaf leaf ∷ leaf ∷ []) ≡ node leaf leaf
+unfolding foremost
+foremost-2 = refl
+
+foremost-none : foremost [] ≡ leaf
+unfolding foremost
+foremost-none = refl
+
+tree-of-1100 : treeOf (1 ∷ 1 ∷ 0 ∷ 0 ∷ []) ≡ goes-left
+unfolding treeOf foremost parse grow
+tree-of-1100 = refl
+
+tree-of-1010 : treeOf (1 ∷ 0 ∷ 1 ∷ 0 ∷ []) ≡ goes-right
+unfolding treeOf foremost parse grow
+tree-of-1010 = refl

@@ -20,6 +20,7 @@ use Rattle.schedule.specs.Schedule.{ones, Schedule}
 use Rattle.schedule.specs.Check.{playRows}
 use Rattle.schedule.proofs.Theorems.{accepted-schedule, schedule-accepted}
 use Rattle.tree.specs.Tree.{Tree, size, word, lefts, rights, parents}
+use Rattle.tree.specs.Parse.{treeOf}
 use Rattle.tree.specs.Table.{Has, lentRows, treeRows, Treed, filled, kept}
 use Rattle.schedule.proofs.Tally.{ones-append}
 use Rattle.tree.proofs.Word.{
@@ -28,7 +29,6 @@ use Rattle.tree.proofs.Word.{
   front,
   front-schedule,
   front-unique,
-  treeOf,
   word-tree,
   one-tree,
 }

@@ -2,7 +2,7 @@
 --     ones-word, zeros-word     a tree of n nodes has n ones and n + 1 zeros
 --     front, word-front         the word without its final leaf
 --     front-schedule            that is a closed schedule
---     treeOf, word-tree         the tree of a closed schedule, read from the last beat to the first
+--     word-tree                 the tree of a closed schedule has its word
 --     one-tree                  no other tree has its word
 -- Assumes nothing.
 use mathlib.Core.Bool.{true, false≢true}
@@ -15,6 +15,7 @@ use Rattle.schedule.specs.Schedule.{ones, zeros, Schedule}
 use Rattle.schedule.proofs.Tally.{ones-append, zeros-append}
 use Rattle.schedule.proofs.Hand.{plays, schedule-plays, schedule-zeros, plays-schedule}
 use Rattle.tree.specs.Tree.{Tree, leaf, node, size, word}
+use Rattle.tree.specs.Parse.{grow, parse, foremost, treeOf}
 
 pub ones-word : (t : Tree) → ones (word t) ≡ size t
 unfolding word size ones
@@ -58,27 +59,9 @@ front-schedule t =
     (omega (arith, ones-word t, ap ones (word-front t), ones-append (front t) (0 ∷ [])))
     (omega (arith, zeros-word t, ap zeros (word-front t), zeros-append (front t) (0 ∷ [])))
 
--- the trees whose words, one after the other, make the list
-unfoldable grow : List Tree → List Tree
-grow [] = []
-grow (a ∷ []) = []
-grow (a ∷ (b ∷ ts)) = node a b ∷ ts
-
-unfoldable parse : List ℕ → List Tree
-parse [] = []
-parse (zero ∷ c) = leaf ∷ parse c
-parse (suc x ∷ c) = grow (parse c)
-
 unfoldable words : List Tree → List ℕ
 words [] = []
 words (t ∷ ts) = word t ++ words ts
-
-unfoldable first : List Tree → Tree
-first [] = leaf
-first (t ∷ ts) = t
-
-pub treeOf : List ℕ → Tree
-treeOf b = first (parse (b ++ 0 ∷ []))
 
 grown : (ts : List Tree) (h : ℕ) (c : List ℕ) → words ts ≡ c → length ts ≡ suc (suc h)
     → (words (grow ts) ≡ 1 ∷ c) × (length (grow ts) ≡ suc h)
@@ -100,12 +83,12 @@ parsed h (suc zero ∷ b) o e =
 parsed h (suc (suc x) ∷ b) o e = absurd (false≢true o)
 
 pub word-tree : {n : ℕ} {b : List ℕ} → Schedule n n b → b ++ 0 ∷ [] ≡ word (treeOf b)
-unfolding treeOf first words
+unfolding treeOf foremost words
 word-tree {n} {b} q =
     let i = parsed 0 b (schedule-plays q) (omega (arith, q .taken, schedule-zeros q)) in
     go (parse (b ++ 0 ∷ [])) (i .0) (i .1)
   where
-    go : (ts : List Tree) → words ts ≡ b ++ 0 ∷ [] → length ts ≡ 1 → b ++ 0 ∷ [] ≡ word (first ts)
+    go : (ts : List Tree) → words ts ≡ b ++ 0 ∷ [] → length ts ≡ 1 → b ++ 0 ∷ [] ≡ word (foremost ts)
     go [] w k = absurd (omega arith)
     go (t ∷ []) w k = sym (sym (append-nil (word t)) ∙ w)
     go (t ∷ (u ∷ ts)) w k = absurd (omega arith)
@@ -116,8 +99,8 @@ parse-word leaf c = refl
 parse-word (node a b) c = rw (append-assoc (word a) (word b) c, parse-word a (word b ++ c), parse-word b c)
 
 pub one-tree : (t : Tree) (b : List ℕ) → b ++ 0 ∷ [] ≡ word t → treeOf b ≡ t
-unfolding treeOf first parse
-one-tree t b e = ap (λ (c : List ℕ). first (parse c)) (e ∙ sym (append-nil (word t))) ∙ ap first (parse-word t [])
+unfolding treeOf foremost parse
+one-tree t b e = ap (λ (c : List ℕ). foremost (parse c)) (e ∙ sym (append-nil (word t))) ∙ ap foremost (parse-word t [])
 
 -- a list is known by the list with one more leaf
 pub front-unique : (b c : List ℕ) → b ++ 0 ∷ [] ≡ c ++ 0 ∷ [] → b ≡ c

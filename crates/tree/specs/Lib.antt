@@ -1,3 +1,4 @@
 pub mod Tree
+pub mod Parse
 pub mod Table
 pub mod Planting
