@@ -1,0 +1,11 @@
+pub mod Induction
+pub mod Schedules
+pub mod Lines
+pub mod Below
+pub mod Bound
+pub mod Dotted
+pub mod Keeping
+pub mod Numbers
+pub mod Listing
+pub mod Verdicts
+pub mod Cases

@@ -1,0 +1,4 @@
+pub mod Outline
+pub mod Text
+pub mod Answers
+pub mod Writing
