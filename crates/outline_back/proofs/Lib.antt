@@ -1,0 +1,11 @@
+pub mod Standing
+pub mod Line
+pub mod Headings
+pub mod Sizes
+pub mod Texts
+pub mod Leading
+pub mod Complete
+pub mod Whole
+pub mod Theorems
+pub mod Faults
+pub mod Cases
