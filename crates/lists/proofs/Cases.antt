@@ -7,7 +7,7 @@ use Prim.Native.Nat.{ℕ, _<_}
 use native.Mathlib.Omega.{arith}
 use lib.IntN.{negsuc}
 use lib.ListN.{replicate}
-use Rattle.refusal.specs.declared.Refusal.the-variants.{WrongTakeUps, NoSuchNumber}
+use Rattle.refusal.specs.declared.Refusal.the-variants.{WrongTakeUps, NoSuchNumber, NotClosed}
 use Rattle.refusal.specs.declared.Verdict.{Verdict}
 use Rattle.text.specs.Decimal.{digits, decimal}
 use Rattle.bounded.specs.Bounded.{every, firstFrom}
@@ -17,6 +17,10 @@ use Rattle.circle.specs.Step.{shift, found, has01, movesNext, next}
 use Rattle.circle.specs.Walk.{steps, changed}
 use Rattle.record.specs.Bytes.{valueOf, tabulate}
 use Rattle.reason.specs.Explanation.{differingFrom, explanationOf}
+use Rattle.tree.specs.Parse.{grow, parse, foremost, treeOf}
+use Rattle.outline.specs.Outline.{planted}
+use Rattle.outline.specs.Text.{stem, linesOf}
+use Rattle.outline.specs.Text as outline
 use Rattle.line.specs.Line.{beatText}
 use Rattle.reason_line.specs.Line.{placesText}
 use Rattle.stream.specs.declared.Front.{Front}
@@ -28,12 +32,15 @@ use Rattle.lists.specs.declared.Which.{Which}
 use Rattle.lists.specs.Listed.{
   formIn,
   onesIn,
+  apart,
+  outlinedText,
   acceptedText,
   refusedIn,
   text,
   lineOf,
   packingList,
   explanations,
+  outlines,
   widest,
   Buffers,
   Turned,
@@ -169,6 +176,37 @@ unfolding listFrom valueOf tabulate N digits decimal every firstFrom ones zeros 
     next steps changed differingFrom explanationOf placesText
 whole-explained = refl
 
+-- a refusal where outlines are listed: its line and an empty line; 7 and 14
+apart-7 : apart NoSuchNumber
+    ≡ 114 ∷ 101 ∷ 102 ∷ 117 ∷ 115 ∷ 101 ∷ 100 ∷ 32 ∷ 55 ∷ 32 ∷ 48 ∷ 32 ∷ 48 ∷ 10 ∷ 10 ∷ []
+unfolding digits decimal
+apart-7 = refl
+
+apart-14 : apart NotClosed
+    ≡ 114 ∷ 101 ∷ 102 ∷ 117 ∷ 115 ∷ 101 ∷ 100 ∷ 32 ∷ 49 ∷ 52 ∷ 32 ∷ 48 ∷ 32 ∷ 48 ∷ 10 ∷ 10 ∷ []
+unfolding digits decimal
+apart-14 = refl
+
+-- 1100 is 1, 1.1 and an empty line; 110 is not closed [I6]
+outlined-1100 : outlinedText 2 2 (1 ∷ 1 ∷ 0 ∷ 0 ∷ []) ≡ 49 ∷ 10 ∷ 49 ∷ 46 ∷ 49 ∷ 10 ∷ 10 ∷ []
+unfolding digits decimal grow parse foremost treeOf planted stem outline.lines linesOf outline.text
+outlined-1100 = refl
+
+outlined-110 : outlinedText 2 1 (1 ∷ 1 ∷ 0 ∷ [])
+    ≡ 114 ∷ 101 ∷ 102 ∷ 117 ∷ 115 ∷ 101 ∷ 100 ∷ 32 ∷ 49 ∷ 52 ∷ 32 ∷ 48 ∷ 32 ∷ 48 ∷ 10 ∷ 10 ∷ []
+unfolding digits decimal
+outlined-110 = refl
+
+-- 10 and the empty schedule: 1, an empty line, and another empty line; no record gives nothing [I6]
+whole-outlined : outlines (5 ∷ 0 ∷ 2 ∷ 0 ∷ 1 ∷ 1 ∷ 128 ∷ 4 ∷ 0 ∷ 2 ∷ 0 ∷ 0 ∷ 0 ∷ []) ≡ 49 ∷ 10 ∷ 10 ∷ 10 ∷ []
+unfolding listFrom valueOf tabulate N digits decimal every firstFrom ones zeros isSchedule shift found has01 movesNext
+    next steps changed grow parse foremost treeOf planted stem outline.lines linesOf outline.text
+whole-outlined = refl
+
+none-outlined : outlines [] ≡ []
+unfolding listFrom
+none-outlined = refl
+
 -- the form of a record, and the ones of the beats that it packs, 10101
 form-in : formIn (5 ∷ 0 ∷ 2 ∷ 0 ∷ 3 ∷ 2 ∷ 168 ∷ []) ≡ 1 ∷ 0 ∷ 1 ∷ 0 ∷ 1 ∷ []
 unfolding valueOf tabulate
@@ -186,7 +224,7 @@ ones-in-10 : onesIn (5 ∷ 0 ∷ 2 ∷ 0 ∷ 1 ∷ 1 ∷ 128 ∷ []) ≡ 1
 unfolding valueOf tabulate ones
 ones-in-10 = refl
 
--- the line of 10 in either list
+-- the line of 10 in the packing list and in the explanations
 taken-packing : acceptedText Which.Packing 1 1 0 (1 ∷ 0 ∷ []) ≡ 49 ∷ 32 ∷ 49 ∷ 32 ∷ 48 ∷ 32 ∷ 49 ∷ 48 ∷ 10 ∷ []
 unfolding digits decimal beatText
 taken-packing = refl
@@ -195,8 +233,8 @@ taken-explaining : acceptedText Which.Explaining 1 1 0 (1 ∷ 0 ∷ []) ≡ 49 �
 unfolding N digits decimal ones zeros explanationOf placesText
 taken-explaining = refl
 
--- a refusal that is no 6 has one line in both lists; after a 6 an explanation has the ones of the record, of 1010 for
--- (3,1)
+-- a refusal that is no 6 has one line in the packing list and in the explanations; after a 6 an explanation has the
+-- ones of the record, of 1010 for (3,1)
 refused-packing : refusedIn Which.Packing [] NoSuchNumber
     ≡ 114 ∷ 101 ∷ 102 ∷ 117 ∷ 115 ∷ 101 ∷ 100 ∷ 32 ∷ 55 ∷ 32 ∷ 48 ∷ 32 ∷ 48 ∷ 10 ∷ []
 unfolding digits decimal

@@ -1,8 +1,9 @@
 -- What the programs print of an input, beyond the contracts.
---     line-own         the line of a record depends on no byte after it, in either list
+--     line-own         the lines of a record depend on no byte after it, in any list
 --     pieces-list      however an input is cut into pieces, the texts of the passes one after the other
 --                      are its packing list, and [E15]
---     pieces-explained     its list of explanations [X10]
+--     pieces-explained     its list of explanations, and [X10]
+--     pieces-outlined      its list of outlines [I6]
 -- Assumes nothing.
 use mathlib.Core.Bool.{false}
 use mathlib.Core.List.{List, [], _++_}
@@ -21,12 +22,13 @@ use Rattle.stream.specs.Pass.{joined, Listing}
 use Rattle.stream.proofs.Alone.{verdict-alone, parts-alone, accepted-alone}
 use Rattle.stream.proofs.Theorems.{listing-list}
 use Rattle.lists.specs.declared.Which.{Which}
-use Rattle.lists.specs.Listed.{refusedIn, text, lineOf, widest, packingList, explanations}
+use Rattle.lists.specs.Listed.{refusedIn, text, lineOf, widest, packingList, explanations, outlines}
 
 -- the line of a refused record
 refused-own : (which : Which) (src more : List ℕ) (why : Refusal) → verdictOn src ≡ Verdict.Refused why
     → refusedIn which (src ++ more) why ≡ refusedIn which src why
 refused-own Which.Packing src more why r = refl
+refused-own Which.Outlining src more why r = refl
 refused-own Which.Explaining src more why r = elim (ℕ-discrete (refusalNumber why) 6) [
   | yes six ↦
       let facts = six-facts mostBeats src (ap refusal r ∙ six) in
@@ -53,3 +55,7 @@ module _ {room : ℕ} {input : List ℕ} {texts : List (List ℕ)} where
   pub pieces-explained : Listing (lineOf Which.Explaining) widest room false [] input texts
       → joined texts ≡ explanations input
   pieces-explained = listing-list (lineOf Which.Explaining) (line-own Which.Explaining)
+
+  pub pieces-outlined : Listing (lineOf Which.Outlining) widest room false [] input texts
+      → joined texts ≡ outlines input
+  pieces-outlined = listing-list (lineOf Which.Outlining) (line-own Which.Outlining)

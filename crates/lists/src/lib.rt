@@ -1,12 +1,13 @@
-// The lists that the programs print of a stream of order records, a line for each: the packing list and the
-// explanations, the manual, "The packing list" and "Why a beat moves". They differ in the line of a record alone, which
-// is in specs/Listed; how a stream is listed, and that what is printed is the list of the whole input however it comes
-// in pieces, is in the crate `stream`, whose specs/Pass and specs/Exchange the contracts cite too. [P1]
+// The lists that the programs print of a stream of order records, some lines for each: the packing list, the
+// explanations and the outlines, the manual, "The packing list", "The explanations" and "The list of outlines". They
+// differ in the lines of a record alone, which are in specs/Listed; how a stream is listed, and that what is printed is
+// the list of the whole input however it comes in pieces, is in the crate `stream`, whose specs/Pass and specs/Exchange
+// the contracts cite too. [P1]
 ghost use mathlib.Core.Path.{_≡_};
 ghost use Prim.Native.Nat.{_+_, _≤_};
 ghost use lib.ListN.{length};
 ghost use Rattle.refusal.specs.declared.Verdict.{Verdict};
-ghost use Rattle.triangle.specs.Count.{mostBeats};
+ghost use Rattle.triangle.specs.Count.{largest, mostBeats};
 ghost use Rattle.lookup.specs.Lent.{Counts};
 ghost use Rattle.schedule.specs.Schedule.{Schedule};
 ghost use Rattle.text.specs.Written.{Written};
@@ -14,33 +15,60 @@ ghost use Rattle.stream.specs.Stream.{verdictOn};
 ghost use Rattle.stream.specs.Exchange.{Inside};
 ghost use Rattle.stream.specs.Pass.{Prints, Passes};
 ghost use Rattle.lists.specs.declared.Which as of;
-ghost use Rattle.lists.specs.Listed.{acceptedText, refusedIn, lineOf, widest, Buffers, Turned};
+ghost use Rattle.lists.specs.Listed.{outlinedText, apart, acceptedText, refusedIn, lineOf, widest};
+ghost use Rattle.lists.specs.Listed.{Buffers, Turned};
 use record::Reading;
 use refusal::Refusal;
 use stream::Front;
 use stream::Pass;
 use stream::Printed;
 use stream::Stream;
+use text::put;
 use triangle::SIDE;
 
-// What a list says of its records: their forms, or why a beat of them moves.
+// What a list says of its records: their forms, why a beat of them moves, or their outlines.
 pub enum Which {
     Packing,
     Explaining,
+    Outlining,
 }
 
-// The bytes that every line fits into.
-const WIDEST: usize = 64 + triangle::BEATS;
+// The bytes that the lines of any record fit into: the longest outline and an empty line.
+const WIDEST: usize = outline::LONGEST + 1;
 
-// Writes the line of an accepted record at the start of the lent bytes. [E4] [X9]
+// Writes the line of a refused record where outlines are listed, and an empty line. [I6]
+fn set_apart(why: Refusal, out: &mut [u8]) -> usize
+    requires { ⌜ widest ≤ length (now out) ⌝ }
+    ensures { λ r. ⌜ Written 0 (apart why) (now (out .entry)) (now (out .exit)) r ⌝ }
+{
+    let past_text = line::refused_text(why, out);
+    let past_line = put(b'\n', out, past_text);
+    put(b'\n', out, past_line)
+}
+
+// Writes the outline of a form, or the line of a 14 where it is not closed, and an empty line. [I6]
+fn outlined(t: u64, s: u64, beats: &[u8], out: &mut [u8]) -> usize
+    requires { ⌜ Schedule t s (now beats) × (t ≤ largest) × (widest ≤ length (now out)) ⌝ }
+    ensures { λ r. ⌜ Written 0 (outlinedText t s (now (beats .entry))) (now (out .entry)) (now (out .exit)) r ⌝ }
+{
+    if t != s {
+        return set_apart(Refusal::NotClosed, out);
+    }
+    let past_outline = outline::print(beats, out);
+    put(b'\n', out, past_outline)
+}
+
+// Writes the lines of an accepted record at the start of the lent bytes. [E4] [X9] [I6]
 fn accepted(which: Which, t: u64, s: u64, number: u64, beats: &[u8], out: &mut [u8]) -> usize
-    requires { ⌜ Schedule t s (now beats) × (64 + length (now beats) ≤ length (now out)) × (128 ≤ length (now out)) ⌝ }
+    requires { ⌜ Schedule t s (now beats) × (t ≤ largest) × (64 + length (now beats) ≤ length (now out))
+        × (widest ≤ length (now out)) ⌝ }
     ensures { λ r. ⌜ Written 0 (acceptedText which t s number (now (beats .entry))) (now (out .entry)) (now (out .exit))
         r ⌝ }
 {
     match which {
         Which::Packing => line::accepted(t, s, number, beats, out),
         Which::Explaining => reason_line::explained(reason::reason_of(beats), out),
+        Which::Outlining => outlined(t, s, beats, out),
     }
 }
 
@@ -58,18 +86,19 @@ fn miscounted(src: &[u8], why: Refusal, out: &mut [u8]) -> usize
     line::refused(why, out)
 }
 
-// Writes the line of a refused record at the start of the lent bytes. [E4] [X11]
+// Writes the lines of a refused record at the start of the lent bytes. [E4] [X11] [I6]
 fn refused(which: Which, src: &[u8], why: Refusal, out: &mut [u8]) -> usize
-    requires { ⌜ (verdictOn (now src) ≡ Verdict.Refused why) × (128 ≤ length (now out)) ⌝ }
+    requires { ⌜ (verdictOn (now src) ≡ Verdict.Refused why) × (widest ≤ length (now out)) ⌝ }
     ensures { λ r. ⌜ Written 0 (refusedIn which (now (src .entry)) why) (now (out .entry)) (now (out .exit)) r ⌝ }
 {
     match which {
         Which::Packing => line::refused(why, out),
         Which::Explaining => miscounted(src, why, out),
+        Which::Outlining => set_apart(why, out),
     }
 }
 
-// Writes the line of the record that a slice starts with at the start of the lent bytes, leaving the others. The
+// Writes the lines of the record that a slice starts with at the start of the lent bytes, leaving the others. The
 // room takes its beats. [E4]
 fn list(which: Which, rows: &[[u64; SIDE]], src: &[u8], room: &mut [u8], out: &mut [u8]) -> Printed
     requires { ⌜ Counts (now rows) × (length (now room) ≡ mostBeats) × (widest ≤ length (now out)) ⌝ }

@@ -25,6 +25,14 @@ reason-of-requires c κs = own-counts (c .before .before .before .before .pre .0
 explained-requires : tie.Need-explained-requires
 explained-requires c κs = search needs
 
+enum-told-3 : tie.Need-enum-told-3
+enum-told-3 c = search needs
+
+outlined-requires : tie.Need-outlined-requires
+outlined-requires c κs =
+    let start = c .before .before .before .before .before in
+    (start .pre .0, start .pre .1, start .pre .3)
+
 same-length : tie.Need-same-length
 same-length c = search needs
 
@@ -55,6 +63,19 @@ returns-2 c =
     Written 0 (explainedLine e) (args .out .now) (done .explained .last .1 .0) (done .explained .result))
     (known .reason-of .ensures) (done .explained .ensures))
 
+same-length-3 : tie.Need-same-length-3
+same-length-3 c = search needs
+
+returns-3 : tie.Need-returns-3
+returns-3 c =
+    let done = c .before .before in
+    let arm = done .before .before in
+    let args = arm .before .before .before .before .args in
+    subst (λ (w : Which).
+    Written 0 (acceptedText w (args .t) (args .s) (args .number) (args .beats .now)) (args .out .now)
+    (done .outlined .last .1 .1 .1 .0) (done .outlined .result))
+    (sym (arm .enum-told3 .given .1)) (done .outlined .ensures)
+
 pub accepted-spec : {M : Type 1} → statement M
 accepted-spec =
     tie.close
@@ -64,7 +85,11 @@ accepted-spec =
     enum-told-2
     reason-of-requires
     explained-requires
+    enum-told-3
+    outlined-requires
     same-length
     returns
     same-length-2
-    returns-2)
+    returns-2
+    same-length-3
+    returns-3)

@@ -85,6 +85,7 @@ accepted-requires c κs =
     let size =
     length-take-le (order here .t + order here .s) (called here .read-by .last .1 .1 .0) (omega (arith, few here)) in (
       subst (Schedule (order here .t) (order here .s)) (sym (shown here)) (says here .schedule),
+      says here .few .0,
       omega (arith, wide, size, few here),
       omega (arith, wide),
     )

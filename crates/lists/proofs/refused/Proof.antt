@@ -19,6 +19,12 @@ enum-told-2 c = search needs
 miscounted-requires : tie.Need-miscounted-requires
 miscounted-requires c κs = search needs
 
+enum-told-3 : tie.Need-enum-told-3
+enum-told-3 c = search needs
+
+set-apart-requires : tie.Need-set-apart-requires
+set-apart-requires c κs = search needs
+
 same-length : tie.Need-same-length
 same-length c = search needs
 
@@ -45,6 +51,19 @@ returns-2 c =
     (done .miscounted .result))
     (sym (arm .enum-told2 .given .1)) (done .miscounted .ensures)
 
+same-length-3 : tie.Need-same-length-3
+same-length-3 c = search needs
+
+returns-3 : tie.Need-returns-3
+returns-3 c =
+    let done = c .before .before in
+    let arm = done .before .before in
+    let args = arm .before .before .before .before .args in
+    subst (λ (w : Which).
+    Written 0 (refusedIn w (args .src .now) (args .why)) (args .out .now) (done .set-apart .last .1 .0)
+    (done .set-apart .result))
+    (sym (arm .enum-told3 .given .1)) (done .set-apart .ensures)
+
 pub refused-spec : {M : Type 1} → statement M
 refused-spec =
     tie.close
@@ -53,7 +72,11 @@ refused-spec =
     refused-requires
     enum-told-2
     miscounted-requires
+    enum-told-3
+    set-apart-requires
     same-length
     returns
     same-length-2
-    returns-2)
+    returns-2
+    same-length-3
+    returns-3)
