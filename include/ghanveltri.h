@@ -10,17 +10,19 @@
  *
  * Rules for every function:
  * - It takes every number and every content of the lent bytes, and ends. It does its work, or refuses by one
- *   of the numbers below. A refused call leaves every lent byte as it was. The lists, gv_packing_list and
- *   gv_explain_list, refuse nothing: they end when their input does, and answer numbers of their own.
- * - It answers one number; gv_refusal_text alone answers a text. Of check, count and number each part has a
- *   function of its own: `_refusal` answers GV_ACCEPTED or the refusal, `_place` the beat at fault, or 0 where
- *   there is none, gv_count and gv_number the value, 0 after a refusal, and `_surplus`, of check and number, the
- *   ones minus t after GV_WRONG_TAKE_UPS, and else 0. gv_form, gv_next, gv_previous, gv_run and gv_run_back
- *   answer GV_ACCEPTED or the refusal, and `_changed` the beats that a step or a run would change, 0 after a
- *   refusal, which is that of the step or the run. Of explain, gv_explain_case answers 0 after a refusal, and
- *   the other three, which answer a place, answer GV_NO_PLACE.
- * - A slice is a pointer and, right after it, its length in bytes. Nothing outside the slice is read or
- *   written, and a slice that is lent as const is only read.
+ *   of the numbers below. A refused call leaves every lent byte as it was. The lists, gv_packing_list,
+ *   gv_explain_list and gv_outline_list, refuse nothing: they end when their input does, and answer numbers of
+ *   their own.
+ * - It answers one number; gv_refusal_text alone answers a text. Of check, count, number and outline each part
+ *   has a function of its own: `_refusal` answers GV_ACCEPTED or the refusal, `_place` the beat at fault, or 0
+ *   where there is none, gv_count, gv_number and gv_outline the value, 0 after a refusal, and `_surplus`, of
+ *   check, number and outline, the ones minus t after GV_WRONG_TAKE_UPS, and else 0. gv_form, gv_next,
+ *   gv_previous, gv_run, gv_run_back and gv_outline_read answer GV_ACCEPTED or the refusal, gv_outline_read_place
+ *   the line at fault, and `_changed` the beats that a step or a run would change, 0 after a refusal, which is that
+ *   of the step or the run. Of explain, gv_explain_case answers 0 after a refusal, and the other three, which answer
+ *   a place, answer GV_NO_PLACE.
+ * - A slice is a pointer and, right after it, its length in bytes: `length` of beats, `room` of a text. Nothing
+ *   outside the slice is read or written, and a slice that is lent as const is only read.
  * - The caller owes a pointer that is valid for the length, and is not NULL even if the length is 0; slices
  *   of one call that do not overlap; and that nobody else writes a slice during the call, nor reads one that
  *   is not const.
@@ -50,7 +52,7 @@ extern "C" {
  *   has the major version. It is to be built again. [K7]
  */
 #define GV_VERSION_MAJOR 2
-#define GV_VERSION_MINOR 0
+#define GV_VERSION_MINOR 1
 #define GV_VERSION_PATCH 0
 #define GV_VERSION (GV_VERSION_MAJOR * 1000000 + GV_VERSION_MINOR * 1000 + GV_VERSION_PATCH)
 
@@ -58,19 +60,21 @@ extern "C" {
 #define GV_MAX_BEATS 64    /* the largest t + s */
 #define GV_MAX_STEPS 65535 /* the most steps of a run */
 
+#define GV_LONGEST_OUTLINE (GV_MAX_TASKS * (GV_MAX_TASKS + 1)) /* bytes that every outline has room in */
+
 #define GV_NO_PLACE 18446744073709551615u /* no such place, as the functions of explain answer it */
 
 /*
  * The refusals. A number never changes its meaning; new ones follow the last. The functions below give those
- * from GV_TOO_MANY_TASKS to GV_NO_SUCH_NUMBER, and GV_RUN_TOO_LONG. The others are of parts of the library that
- * have no C function: tree tables (GV_NO_SUCH_TABLES), order records (GV_CUT_SHORT to GV_NO_ROOM) and sheets
- * (GV_NO_ROOM). A line of a list has the refusal, the place and the surplus of its record. A place or a surplus
+ * from GV_TOO_MANY_TASKS to GV_NO_SUCH_NUMBER, and those from GV_NO_ROOM on. The others are of parts of the
+ * library that have no C function: tree tables (GV_NO_SUCH_TABLES) and order records (GV_CUT_SHORT to
+ * GV_WRONG_SIZE). A line of a list has the refusal, the place and the surplus of its record. A place or a surplus
  * that is not named here is 0. [R1] [R2]
  */
 #define GV_ACCEPTED 0          /* no refusal */
-#define GV_TOO_MANY_TASKS 1    /* t is above GV_MAX_TASKS */
+#define GV_TOO_MANY_TASKS 1    /* t, or n, is above GV_MAX_TASKS */
 #define GV_MORE_DOWN_THAN_UP 2 /* s is above t */
-#define GV_WRONG_LENGTH 3      /* the slice is not t + s bytes long */
+#define GV_WRONG_LENGTH 3      /* the slice of beats is not t + s bytes long */
 #define GV_BAD_BEAT 4          /* a beat is neither 0 nor 1; the place is the first such beat */
 #define GV_EMPTY_HAND 5        /* a beat sets down with nothing in hand; the place is the first such beat */
 #define GV_WRONG_TAKE_UPS 6    /* the ones are not t; the surplus is the ones minus t */
@@ -81,6 +85,8 @@ extern "C" {
 #define GV_WRONG_SIZE 11       /* a record's length is wrong for its kind, or its unused bits are not 0 */
 #define GV_NO_ROOM 12          /* not enough room is lent, or a sheet is too short */
 #define GV_RUN_TOO_LONG 13     /* the steps are above GV_MAX_STEPS */
+#define GV_NOT_CLOSED 14       /* the schedule has more ones than zeros */
+#define GV_NO_SUCH_OUTLINE 15  /* the text is not the outline of n lines; the place is its first wrong line */
 
 /* The library takes lengths of 64 bits: where size_t has another width this line does not compile. */
 typedef char gv_size_t_has_64_bits[sizeof(size_t) == 8 ? 1 : -1];
@@ -221,9 +227,52 @@ uint64_t gv_run_back(uint64_t t, uint64_t s, uint8_t *beats, size_t length, uint
 uint64_t gv_run_back_changed(uint64_t t, uint64_t s, const uint8_t *beats, size_t length, uint64_t steps);
 
 /*
- * Lists the order records of one open descriptor to another, a line for each: up to the end of the input, or to
- * a record that is refused with GV_CUT_SHORT. gv_packing_list writes the lines of the command packing_list;
- * gv_explain_list those of the command explain, which say why gv_next moves a beat of the form.
+ * Prints a closed schedule, one with t = s, as an outline.
+ * A 1 opens a heading one level down, and a 0 goes back up. Each heading is a line of ASCII: its number and a
+ * line feed. A number is that of the heading that it is under, a dot, and its place among those there, from 1 on;
+ * a topmost one has the place alone. So 110100 is printed as the lines 1, 1.1 and 1.2, and the schedule without
+ * beats as no line.
+ * gv_outline_refusal answers what gv_check_refusal answers, then GV_NOT_CLOSED, then GV_NO_ROOM, where the text
+ * is longer than the room. GV_LONGEST_OUTLINE bytes are enough for every outline.
+ * gv_outline_place and gv_outline_surplus answer what gv_check_place and gv_check_surplus answer.
+ * gv_outline answers how many bytes were written, and 0 after a refusal. The schedule without beats has 0 bytes
+ * too, so ask for the refusal where there may be one.
+ * In: t, s, beats. Out, gv_outline alone: the text begins with the outline, which no 0 ends, and what stands after
+ * it is what stood there; after a refusal, all is what it was. The other three write nothing.
+ * The functions inside call each other, one for a list of headings and one for a heading, at most 65 calls deep
+ * for 32 headings inside each other. These four, and the two below that read, need up to 8 KB of stack. [H15]
+ * [I1] [I4]
+ */
+uint64_t gv_outline_refusal(uint64_t t, uint64_t s, const uint8_t *beats, size_t length, const uint8_t *text,
+                            size_t room);
+uint64_t gv_outline_place(uint64_t t, uint64_t s, const uint8_t *beats, size_t length, const uint8_t *text,
+                          size_t room);
+int32_t gv_outline_surplus(uint64_t t, uint64_t s, const uint8_t *beats, size_t length, const uint8_t *text,
+                           size_t room);
+uint64_t gv_outline(uint64_t t, uint64_t s, const uint8_t *beats, size_t length, uint8_t *text, size_t room);
+
+/*
+ * Reads a text that is an outline of n lines back to its schedule of n, n: what gv_outline printed, and nothing
+ * else.
+ * gv_outline_read answers GV_ACCEPTED, or the first of these that holds: GV_TOO_MANY_TASKS, where n is above
+ * GV_MAX_TASKS; GV_WRONG_LENGTH, where the slice at `out` is not n + n bytes long; GV_NO_SUCH_OUTLINE, where no
+ * outline of n lines has this text.
+ * gv_outline_read_place answers the line at fault after GV_NO_SUCH_OUTLINE, counted from 0, and else 0: the first
+ * that is wrong, missing or one too many. So many whole lines before it, each with its line feed, are those that
+ * some outline of n lines begins with. A last line without its line feed is such a line, and so is whatever comes
+ * after n good lines. It writes nothing.
+ * In: n, text. Out, gv_outline_read alone: the bytes at `out`, which may hold anything before, hold the schedule;
+ * after a refusal, what they held. [I2]
+ */
+uint64_t gv_outline_read(uint64_t n, const uint8_t *text, size_t room, uint8_t *out, size_t length);
+uint64_t gv_outline_read_place(uint64_t n, const uint8_t *text, size_t room, const uint8_t *out, size_t length);
+
+/*
+ * Lists the order records of one open descriptor to another, each by its lines: up to the end of the input, or
+ * to a record that is refused with GV_CUT_SHORT. gv_packing_list writes the lines of the command packing_list;
+ * gv_explain_list those of the command explain, which say why gv_next moves a beat of the form. gv_outline_list
+ * writes those of the command outline_list: the lines of the form's outline, or one that it is refused, and an
+ * empty line after each record.
  * Answers 0 when all was listed, a stop after such a record included; 1 when reading failed, after the lines
  * of all records that had come; 2 when writing failed, and what was written is the start of the list. A call
  * that was interrupted is made again. An input or output that is not ready (O_NONBLOCK) is a failure, and no
@@ -234,10 +283,11 @@ uint64_t gv_run_back_changed(uint64_t t, uint64_t s, const uint8_t *beats, size_
  * rest. Both stay open, and `from` may have been read past the record that stopped the list.
  * It waits as long as the system's read and write do, and needs up to 150 KB of stack. Signals are the
  * caller's affair: SIGPIPE (a reader left) and SIGXFSZ (a limit of size) end a process that does not ignore,
- * block or catch them. [E18] [X10]
+ * block or catch them. [E18] [X10] [I3]
  */
 uint64_t gv_packing_list(int32_t from, int32_t to);
 uint64_t gv_explain_list(int32_t from, int32_t to);
+uint64_t gv_outline_list(int32_t from, int32_t to);
 
 #ifdef __cplusplus
 }

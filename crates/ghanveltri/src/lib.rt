@@ -1,12 +1,15 @@
-// The library for a C host: the manual, "What we ship". Each function here is a C function on 64-bit
-// numbers and lent bytes, a slice being its pointer and then its length. A call answers one number: the
-// refusal, the place, the surplus and the value of check, count and number are asked for by a call each, and so is each
-// part of an explanation; form, the steps and the runs, on and back, answer their refusal, and what a step or a run
-// would change comes from calls that write nothing. Nothing is kept from call to call. The contracts cite the
-// definitions of the crates below, each by an equation. [W3] [F4] [P13] [D1a] [P1]
+// The library for a C host: the manual, "What we ship". Each function here is a C function on 64-bit numbers and lent
+// bytes, a slice being its pointer and then its length. A call answers one number: the refusal, the place, the surplus
+// and the value of check, count, number and outline are asked for by a call each, and so is each part of an
+// explanation; form, the steps and the runs, on and back, and the way back from an outline answer their refusal, and
+// what a step or a run would change comes from calls that write nothing. Nothing is kept from call to call. The
+// contracts cite the definitions of the crates below, each by an equation; but that of the way back from an outline is
+// a relation, which one answer fits (`back-one` of its crate). [W3] [F4] [P13] [D1a] [P1]
+ghost use mathlib.Core.List.{List};
 ghost use mathlib.Core.Path.{_≡_};
-ghost use Prim.Native.Nat.{_≤_};
+ghost use Prim.Native.Nat.{ℕ, _≤_};
 ghost use lib.ListN.{getD};
+ghost use Rattle.refusal.specs.declared.Verdict.{Verdict};
 ghost use Rattle.form.specs.Answers.{formVerdict, formLeft};
 ghost use Rattle.refusal.specs.Answer.{refusal, place, surplus, verdict, value};
 ghost use Rattle.counts.specs.Counts.{counting};
@@ -16,15 +19,17 @@ ghost use Rattle.circle_back.specs.Answers.{previousAnswer, previousLeft, runBa
 ghost use Rattle.reason.specs.Explanation.{noPlace};
 ghost use Rattle.reason.specs.Answers.{explained};
 ghost use Rattle.number.specs.Answers.{numberAnswer};
+ghost use Rattle.outline.specs.Answers.{outlineAnswer, outlineLeft};
+ghost use Rattle.outline_back.specs.Back.{Back};
 use lists::Which;
 
-// The version, 2.0.0: major * 1000000 + minor * 1000 + patch.
-const VERSION: u64 = 2000000;
+// The version, 2.1.0: major * 1000000 + minor * 1000 + patch.
+const VERSION: u64 = 2001000;
 
 // The version of the library.
 #[no_mangle]
 pub extern "C" fn gv_version() -> u64
-    ensures { λ r. ⌜ r ≡ 2000000 ⌝ }
+    ensures { λ r. ⌜ r ≡ 2001000 ⌝ }
 {
     VERSION
 }
@@ -245,6 +250,65 @@ pub extern "C" fn gv_explain_changed_place(t: u64, s: u64, beats: &[u8], which: 
     reason::explain(t, s, beats).changed(which)
 }
 
+// Whether the beats have an outline that fits into the lent text: 0, or the refusal, 1 to 6, 14, 12. Writes nothing.
+#[no_mangle]
+// [I1]
+pub extern "C" fn gv_outline_refusal(t: u64, s: u64, beats: &[u8], text: &[u8]) -> u64
+    ensures { λ r. ⌜ r ≡ refusal (verdict (outlineAnswer t s (now (beats .entry)) (now (text .entry)))) ⌝ }
+{
+    outline::printable(t, s, beats, text.len()).refusal()
+}
+
+// The place that goes with that refusal, and 0 where it names none. Writes nothing.
+#[no_mangle]
+// [I1]
+pub extern "C" fn gv_outline_place(t: u64, s: u64, beats: &[u8], text: &[u8]) -> u64
+    ensures { λ r. ⌜ r ≡ place (verdict (outlineAnswer t s (now (beats .entry)) (now (text .entry)))) ⌝ }
+{
+    outline::printable(t, s, beats, text.len()).place()
+}
+
+// The surplus that goes with that refusal: 0 but for 6. Writes nothing.
+#[no_mangle]
+// [I1]
+pub extern "C" fn gv_outline_surplus(t: u64, s: u64, beats: &[u8], text: &[u8]) -> i32
+    ensures { λ r. ⌜ r ≡ surplus (verdict (outlineAnswer t s (now (beats .entry)) (now (text .entry)))) ⌝ }
+{
+    outline::printable(t, s, beats, text.len()).surplus()
+}
+
+// Writes the outline of the lent schedule at the start of the lent text, and answers its bytes; 0 after a refusal,
+// which changes nothing.
+#[no_mangle]
+// [I1]
+pub extern "C" fn gv_outline(t: u64, s: u64, beats: &[u8], text: &mut [u8]) -> u64
+    ensures { λ r. ⌜ r ≡ value (outlineAnswer t s (now (beats .entry)) (now (text .entry))) ⌝ }
+    ensures { λ _. ⌜ now (text .exit) ≡ outlineLeft t s (now (beats .entry)) (now (text .entry)) ⌝ }
+{
+    outline::outline(t, s, beats, text).value()
+}
+
+// Writes the schedule whose outline of n lines has exactly this text into the 2n lent bytes, and answers 0 or the
+// refusal: 1, 3, then 15. A refusal changes nothing.
+#[no_mangle]
+// [I2]
+pub extern "C" fn gv_outline_read(n: u64, text: &[u8], out: &mut [u8]) -> u64
+    ensures { λ r. ⌜ ((v : Verdict) × Back n (now (text .entry)) (now (out .entry)) v (now (out .exit))
+        × (r ≡ refusal v)) ⌝ }
+{
+    outline_back::schedule_of_outline(n, text, out).refusal()
+}
+
+// The first wrong, missing or surplus line, where that is the refusal; else 0. Writes nothing.
+#[no_mangle]
+// [I2]
+pub extern "C" fn gv_outline_read_place(n: u64, text: &[u8], out: &[u8]) -> u64
+    ensures { λ r. ⌜ ((v : Verdict) × (b : List ℕ) × Back n (now (text .entry)) (now (out .entry)) v b
+        × (r ≡ place v)) ⌝ }
+{
+    outline_back::readable(n, text, out).place()
+}
+
 // Lists the order records of one descriptor to another as the packing list does, to the end of the input or
 // after a 9: 0 where all was listed, 1 where reading failed, 2 where writing failed. [E18]
 #[no_mangle]
@@ -262,4 +326,13 @@ pub extern "C" fn gv_explain_list(from: i32, to: i32) -> u64
     ensures { λ r. ⌜ r ≤ 2 ⌝ }
 {
     lists::list_all(Which::Explaining, from, to)
+}
+
+// The same of the list of outlines.
+#[no_mangle]
+// [I3]
+pub extern "C" fn gv_outline_list(from: i32, to: i32) -> u64
+    ensures { λ r. ⌜ r ≤ 2 ⌝ }
+{
+    lists::list_all(Which::Outlining, from, to)
 }
