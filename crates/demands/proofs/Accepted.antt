@@ -6,16 +6,16 @@
 --     accepted-owed     and what was lent is as long as it has to be
 --     call-refused      so what the letter wants refused is not accepted [D1b] [D1e] [D1c]
 -- Assumes nothing.
-use mathlib.Core.Bool.{true≢false}
+use mathlib.Core.Bool.{true≢false, not}
 use mathlib.Core.List.{List, [], _∷_, List·Memᴰ·head}
 use mathlib.Core.Path.{_≡_, refl, _∙_, sym, subst}
 use Prim.Native.Nat.{ℕ, _+_, _≤_}
 use native.Mathlib.Omega.{arith}
 use borrow.Author.Tests.{ltb-false}
-use lib.Dec.{ltb}
+use lib.Dec.{eqb, ltb}
 use lib.ListN.{length}
 use Rattle.form.specs.Answers.{numberRows, sheetVerdict}
-use Rattle.refusal.specs.declared.Refusal.the-variants.{UnknownKind, NoRoom, RunTooLong}
+use Rattle.refusal.specs.declared.Refusal.the-variants.{UnknownKind, NoRoom, RunTooLong, NotClosed}
 use Rattle.refusal.specs.declared.Verdict.{Verdict}
 use Rattle.refusal.specs.Answer.{answer, verdict}
 use Rattle.refusal.specs.Rows.{_⇒_, judge}
@@ -33,6 +33,11 @@ use Rattle.tree.specs.Table.{Treed, filled, kept}
 use Rattle.tree.proofs.Sizes.{sizes-right}
 use Rattle.tree.proofs.Theorems.{tree-accepts}
 use Rattle.tree_back.specs.Back.{Untreed, found, none, unfit}
+use Rattle.outline.specs.Answers.{outlineRows}
+use Rattle.outline.proofs.Verdicts.{room-closed}
+use Rattle.outline_back.specs.Back.{Back}
+use Rattle.outline_back.specs.Back as back
+use Rattle.outline_back.proofs.Sizes as back-sizes
 use Rattle.record.specs.declared.layout.Layout.{Layout}
 use Rattle.record.specs.Bytes.{bytesFor, valueOf}
 use Rattle.record.specs.Layout.{layoutOf, countsAt, isUnwritten}
@@ -54,6 +59,8 @@ use Rattle.demands.specs.Calls.{
   of-form-on-sheet,
   of-tree,
   of-schedule-of-tree,
+  of-outline,
+  of-schedule-of-outline,
   of-read,
   of-write,
 }
@@ -65,6 +72,7 @@ use Rattle.demands.specs.Calls.{
   in-explain,
   in-number,
   in-tree,
+  in-outline,
   in-write,
 }
 use Rattle.demands.specs.Calls.{
@@ -78,6 +86,7 @@ use Rattle.demands.specs.Calls.{
   from-right,
   from-parent,
   schedule,
+  outlined,
 }
 use Rattle.demands.specs.Demands.{
   Wrong,
@@ -93,6 +102,7 @@ use Rattle.demands.specs.Demands.{
   sheet-short,
   places-few,
   room-short,
+  text-short,
   size-tiny,
   size-numbered,
   size-beaten,
@@ -139,6 +149,17 @@ back-sized {n} {l} {r} {p} {b} v e (found a q) = sizes-right n (length b) (lengt
 back-sized v e (none a q) = let z : _≡_ {A = ℕ} 0 1 = cc in absurd (omega arith)
 back-sized v e (unfit a) = let z : _≡_ {A = ℕ} 0 1 = cc in absurd (omega arith)
 
+outline-checked : (t s : ℕ) (b text : List ℕ) → judge (outlineRows t s b (length text)) ≡ Verdict.Accepted
+    → checked t s b ≡ Verdict.Accepted
+outline-checked t s b text e =
+    judge-front (checkRows t s b) ((not (eqb t s) ⇒ NotClosed) ∷ []) (room-closed t s b (length text) e .0)
+
+outline-sized : {n : ℕ} {text b c : List ℕ} (v : Verdict) → Verdict.Accepted ≡ v → Back n text b v c
+    → (n ≤ largest) × (length b ≡ n + n)
+outline-sized {n} {text} {b} v e (back.found o a q i) = back-sizes.sizes-right n (length b) a
+outline-sized v e (back.none a q w) = let z : _≡_ {A = ℕ} 0 1 = cc in absurd (omega arith)
+outline-sized v e (back.unfit a) = let z : _≡_ {A = ℕ} 0 1 = cc in absurd (omega arith)
+
 pub accepted-counts : {c : Call} {t s : ℕ} (m : List ℕ) (x : List (List ℕ)) → CountsOf c t s
     → Gives c Verdict.Accepted m x → Allowed t s
 accepted-counts m x (of-count {t} {s}) g = counts-allowed t s (taken _ _ (g .0 .0))
@@ -152,6 +173,9 @@ accepted-counts m x (of-form-on-sheet {t} {s} {n} {sheet} {column}) g =
     form-counts t s n (sheet-number t s n sheet column (sym (g .0 .0)))
 accepted-counts m x of-tree g = (tree-sized _ refl (g .3) .0 .0, omega arith)
 accepted-counts m x of-schedule-of-tree g = (back-sized _ refl (g .1) .0, omega arith)
+accepted-counts m x (of-outline {t} {s} {b} {text}) g =
+    accepted-schedule t s b (outline-checked t s b text (taken _ _ (g .0 .0))) .0
+accepted-counts m x of-schedule-of-outline g = (outline-sized _ refl (g .1) .0, omega arith)
 accepted-counts m x (of-read {src} {out}) g =
     read-means src (length out) (sym (g .0 .0 ∙ told-verdict _ _ _ _ _)) .allowed
 accepted-counts m x (of-write {kind} {t} {s} {b} {out}) g =
@@ -167,6 +191,8 @@ accepted-beats m x (of-changed {way} {t} {s} {b}) in-changed g =
 accepted-beats m x (of-explain {t} {s} {b}) in-explain g = accepted-schedule t s b (sym (g .0 .0)) .1
 accepted-beats m x (of-number {t} {s} {b}) in-number g = accepted-schedule t s b (taken _ _ (g .0 .0)) .1
 accepted-beats m x of-tree in-tree g = tree-sized _ refl (g .3) .1
+accepted-beats m x (of-outline {t} {s} {b} {text}) in-outline g =
+    accepted-schedule t s b (outline-checked t s b text (taken _ _ (g .0 .0))) .1
 accepted-beats m x (of-write {kind} {t} {s} {b} {out}) in-write g =
     accepted-schedule t s b (write-checked kind t s b out (taken _ _ (g .0 .0))) .1
 
@@ -178,6 +204,7 @@ asked-counts in-changed = (_, _, of-changed)
 asked-counts in-explain = (_, _, of-explain)
 asked-counts in-number = (_, _, of-number)
 asked-counts in-tree = (_, _, of-tree)
+asked-counts in-outline = (_, _, of-outline)
 asked-counts in-write = (_, _, of-write)
 
 pub accepted-owed : {c : Call} {l : List ℕ} {n : ℕ} (m : List ℕ) (x : List (List ℕ)) → Owed c l n
@@ -191,6 +218,7 @@ accepted-owed m x from-left g = back-sized _ refl (g .1) .2
 accepted-owed m x from-right g = back-sized _ refl (g .1) .3
 accepted-owed m x from-parent g = back-sized _ refl (g .1) .4
 accepted-owed m x schedule g = back-sized _ refl (g .1) .1
+accepted-owed m x outlined g = outline-sized _ refl (g .1) .1
 
 pub call-refused : (c : Call) (m : List ℕ) (x : List (List ℕ)) → Wrong c → Gives c Verdict.Accepted m x → ⊥
 call-refused c m x (counts-above cs h) g = omega (arith, accepted-counts m x cs g .0)
@@ -228,6 +256,8 @@ call-refused c m x (room-short {kind} {t} {s} {b} {out} h) g =
       arith,
       ltb-false (length out) (length (recordOf kind t s b)) (accepted-none (row ∷ []) last row (List·Memᴰ·head refl)),
     )
+call-refused c m x (text-short {t} {s} {b} {text} h) g =
+    omega (arith, room-closed t s b (length text) (taken _ _ (g .0 .0)) .1)
 call-refused c m x (size-tiny {src} {out} h) g =
     omega (arith, read-facts (length out) src (sym (g .0 .0 ∙ told-verdict _ _ _ _ _)) .2)
 call-refused c m x (size-numbered {src} {out} {at} {by} k d) g =

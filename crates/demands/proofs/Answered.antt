@@ -3,13 +3,21 @@
 -- Assumes nothing.
 use mathlib.Core.List.{List, [], _∷_}
 use mathlib.Core.Path.{_≡_, refl}
-use Prim.Native.Nat.{ℕ}
-use Rattle.refusal.specs.declared.Refusal.the-variants.{NoSuchTables}
+use Prim.Native.Nat.{ℕ, zero, suc, _+_, _≤_}
+use native.Mathlib.Decide.{decLt}
+use native.Mathlib.Omega.{arith}
+use lib.ListN.{length}
+use Rattle.refusal.specs.declared.Refusal.the-variants.{NoSuchTables, NoSuchOutline}
 use Rattle.refusal.specs.declared.Verdict.{Verdict}
 use Rattle.refusal.specs.Rows.{judge}
 use Rattle.tree.specs.Table.{treeRows, lentRows, filled, kept}
 use Rattle.tree.proofs.Theorems.{closed-has, tree-accepts}
 use Rattle.tree_back.specs.Back.{found, none, unfit}
+use Rattle.outline.specs.Outline.{Outline, headings, schedule}
+use Rattle.outline.specs.Text.{text}
+use Rattle.outline_back.specs.Back as outlined
+use Rattle.outline_back.specs.Back.{Leads, Wrong, backRows}
+use Rattle.outline_back.proofs.Leading.{longer, longer-headings}
 use Rattle.demands.specs.Calls.{
   Call,
   count,
@@ -22,10 +30,38 @@ use Rattle.demands.specs.Calls.{
   form-on-sheet,
   tree,
   schedule-of-tree,
+  outline,
+  schedule-of-outline,
   read,
   write,
   Gives,
 }
+
+-- that no line of a text is its first wrong one is impossible: of k lines down to none, k being the most that can lead
+lead-none : (n : ℕ) (x : List ℕ) → ((k : ℕ) → Wrong n x k → ⊥) → (d k : ℕ) → n ≤ k + d → Leads n x k → ⊥
+lead-none n x free zero k far q = free k (record { leads = q; most = λ j r. omega (arith, r .within) })
+lead-none n x free (suc d) k far q =
+    free k
+    (record {
+      leads = q;
+      most = λ j r.
+          elim (decLt k j) [
+            | yes h ↦ absurd (lead-none n x free d j (omega arith) r)
+            | no h ↦ omega arith
+          ];
+    })
+
+some-wrong : (n : ℕ) (x : List ℕ) → ((k : ℕ) → Wrong n x k → ⊥) → ⊥
+unfolding headings text
+some-wrong n x free =
+    lead-none n x free n 0 (omega arith)
+    (record {
+      outline = longer Outline.none n;
+      size = omega (arith, longer-headings Outline.none n);
+      within = omega arith;
+      rest = x;
+      begins = refl;
+    })
 
 pub call-answered : (c : Call) → ((v : Verdict) (m : List ℕ) (x : List (List ℕ)) → Gives c v m x → ⊥) → ⊥
 call-answered (count t s) silent = silent _ _ _ ((refl, refl), refl)
@@ -55,5 +91,22 @@ call-answered (schedule-of-tree n l r p out) silent = by (judge (lentRows n out 
           refl,
         )
     by (Verdict.Refused why) e = silent (Verdict.Refused why) [] (l ∷ r ∷ p ∷ out ∷ []) (out, unfit e, refl, refl)
+call-answered (outline t s b text) silent = silent _ _ _ ((refl, refl), refl)
+call-answered (schedule-of-outline n text out) silent = by (judge (backRows n (length out))) refl
+  where
+    by : (v : Verdict) → judge (backRows n (length out)) ≡ v → ⊥
+    by Verdict.Accepted e =
+        some-wrong n text (λ k wrong.
+        silent (Verdict.Refused (NoSuchOutline k)) [] (text ∷ out ∷ []) (
+          out,
+          outlined.none e
+              (λ o size q.
+              silent Verdict.Accepted [] (text ∷ schedule o ∷ []) (schedule o, outlined.found o e size q, refl, refl))
+              wrong,
+          refl,
+          refl,
+        ))
+    by (Verdict.Refused why) e =
+        silent (Verdict.Refused why) [] (text ∷ out ∷ []) (out, outlined.unfit e, refl, refl)
 call-answered (read src out) silent = silent _ _ _ ((refl, refl), refl)
 call-answered (write kind t s b out) silent = silent _ _ _ ((refl, refl), refl)

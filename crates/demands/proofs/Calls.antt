@@ -27,6 +27,11 @@ use Rattle.tree.specs.Table.{Treed, filled, kept}
 use Rattle.tree.proofs.Theorems.{treed-one}
 use Rattle.tree_back.specs.Back.{Untreed, found, none, unfit}
 use Rattle.tree_back.proofs.Theorems.{untreed-one}
+use Rattle.outline.specs.Text.{printed}
+use Rattle.outline.specs.Answers.{outlineRows, outlineAnswer}
+use Rattle.outline_back.specs.Back.{Back}
+use Rattle.outline_back.specs.Back as outlined
+use Rattle.outline_back.proofs.Theorems.{back-one}
 use Rattle.record.specs.Record.{recordOf, writeRows, writeAnswer, readRows}
 use Rattle.record.specs.declared.reading.Reading.{Reading}
 use Rattle.reader.specs.Answers.{readAnswer}
@@ -49,6 +54,8 @@ use Rattle.demands.specs.Calls.{
   form-on-sheet,
   tree,
   schedule-of-tree,
+  outline,
+  schedule-of-outline,
   read,
   write,
   lent,
@@ -78,6 +85,12 @@ back-kept v e (found a q) = let z : _≡_ {A = ℕ} 0 1 = cc in absurd (omega ar
 back-kept v e (none a q) = refl
 back-kept v e (unfit a) = refl
 
+outline-kept : {n : ℕ} {text b c : List ℕ} {why : Refusal} (v : Verdict) → Verdict.Refused why ≡ v → Back n text b v c
+    → c ≡ b
+outline-kept v e (outlined.found o a q i) = let z : _≡_ {A = ℕ} 0 1 = cc in absurd (omega arith)
+outline-kept v e (outlined.none a q w) = refl
+outline-kept v e (outlined.unfit a) = refl
+
 pub call-unchanged : (c : Call) (why : Refusal) (m : List ℕ) (x : List (List ℕ)) → Gives c (Verdict.Refused why) m x
     → x ≡ lent c
 call-unchanged (count t s) why m x g = g .1
@@ -104,6 +117,11 @@ call-unchanged (tree n b l r p) why m x g =
     ∙ ap (λ (w : List ℕ). b ∷ l ∷ r ∷ w ∷ []) (same .2)
 call-unchanged (schedule-of-tree n l r p out) why m x g =
     g .3 ∙ ap (λ (w : List ℕ). l ∷ r ∷ p ∷ w ∷ []) (back-kept (Verdict.Refused why) refl (g .1))
+call-unchanged (outline t s b text) why m x g =
+    let v = judge (outlineRows t s b (length text)) in
+    g .1 ∙ ap (λ (w : List ℕ). b ∷ w ∷ []) (still v (g .0 .0 ∙ verdict-answer v (length (printed b))) _ text)
+call-unchanged (schedule-of-outline n text out) why m x g =
+    g .3 ∙ ap (λ (w : List ℕ). text ∷ w ∷ []) (outline-kept (Verdict.Refused why) refl (g .1))
 call-unchanged (read src out) why m x g =
     let v = judge (readRows (length out) src) in
     g .1 ∙ ap (λ (w : List ℕ). src ∷ w ∷ []) (still v (g .0 .0 ∙ told-verdict _ _ _ _ v) _ out)
@@ -143,6 +161,8 @@ call-silent (form t s n out) why m x g i = no-numbers m (g .0 .1) i
 call-silent (form-on-sheet t s n sheet column) why m x g i = no-numbers m (g .0 .1) i
 call-silent (tree n b l r p) why m x g i = no-numbers m (g .4) i
 call-silent (schedule-of-tree n l r p out) why m x g i = no-numbers m (g .2) i
+call-silent (outline t s b text) why m x g i = no-value (outlineAnswer t s b text) why m (g .0) i
+call-silent (schedule-of-outline n text out) why m x g i = no-numbers m (g .2) i
 call-silent (read src out) why m x g i = by (readAnswer src out) (g .0 .0) (g .0 .1)
   where
     zeros : (i : ℕ) → _≡_ {A = ℕ} (getD (0 ∷ 0 ∷ 0 ∷ []) i 0) 0
@@ -185,5 +205,9 @@ call-one (tree n b l r p) v w m k x y g h =
 call-one (schedule-of-tree n l r p out) v w m k x y g h =
     let same = untreed-one (g .1) (h .1) in
     (same .0, g .2 ∙ sym (h .2), g .3 ∙ ap (λ (a : List ℕ). l ∷ r ∷ p ∷ a ∷ []) (same .1) ∙ sym (h .3))
+call-one (outline t s b text) v w m k x y g h = same g h
+call-one (schedule-of-outline n text out) v w m k x y g h =
+    let same = back-one (g .1) (h .1) in
+    (same .0, g .2 ∙ sym (h .2), g .3 ∙ ap (λ (a : List ℕ). text ∷ a ∷ []) (same .1) ∙ sym (h .3))
 call-one (read src out) v w m k x y g h = same g h
 call-one (write kind t s b out) v w m k x y g h = same g h

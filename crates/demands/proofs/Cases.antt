@@ -18,6 +18,10 @@ use Rattle.refusal.specs.declared.Verdict.{Verdict}
 use Rattle.circle.specs.Step.{top}
 use Rattle.circle.proofs.Circle.{top-schedule}
 use Rattle.record.specs.Bytes.{lowFirst, valueOf}
+use Rattle.tree.specs.Parse.{grow, parse, foremost, treeOf}
+use Rattle.text.specs.Decimal.{digits, decimal}
+use Rattle.outline.specs.Outline.{planted}
+use Rattle.outline.specs.Text.{stem, lines, linesOf, text}
 use Rattle.demands.specs.Calls as call
 use Rattle.demands.specs.Calls.{
   moveAnswer,
@@ -25,6 +29,7 @@ use Rattle.demands.specs.Calls.{
   count,
   check,
   form-on-sheet,
+  outline,
   read,
   write,
   lent,
@@ -47,6 +52,7 @@ use Rattle.demands.specs.Demands.{
   sheet-short,
   places-few,
   room-short,
+  text-short,
   size-numbered,
   Demand2,
   Demand3,
@@ -59,6 +65,9 @@ use Rattle.demands.proofs.Backwards.{backwards}
 use Rattle.demands.specs.Surplus.{About, lent-to}
 use Rattle.demands.specs.Explaining.{Explaining}
 use Rattle.demands.proofs.Explaining.{explaining}
+use Rattle.demands.specs.Outlines.{Writes}
+use Rattle.demands.proofs.Outlines.{outlines}
+use Rattle.demands.proofs.ShamsOutline.{taken-1}
 use Rattle.demands.specs.Examples.{
   InOrder,
   Changing,
@@ -203,8 +212,8 @@ owed-2 p = omega (arith, accepted-owed [] ((1 ∷ []) ∷ []) p checks-1)
 wrong-200 : Wrong (count 200 0)
 wrong-200 = counts-above {t = 200} {s = 0} of-count (omega arith)
 
--- lengths that are wrong: a sheet of four bytes for five beats, 63 places to read into, 13 bytes for a record of 14,
--- and a record with L = 13 that is of kind 1
+-- lengths that are wrong: a sheet of four bytes for five beats, 63 places to read into, 13 bytes for a record of 14, a
+-- byte for a text of two, and a record with L = 13 that is of kind 1
 wrong-sheet : Wrong (form-on-sheet 3 2 0 (0 ∷ 0 ∷ 0 ∷ 0 ∷ []) 0)
 wrong-sheet = sheet-short {t = 3} {s = 2} {sheet = 0 ∷ 0 ∷ 0 ∷ 0 ∷ []} {column = 0} (omega arith)
 
@@ -214,6 +223,10 @@ wrong-places = places-few {out = replicate 63 0} (omega arith)
 wrong-room : Wrong (write 3 1 0 (1 ∷ []) (replicate 13 0))
 unfolding lowFirst
 wrong-room = room-short {kind = 3} {t = 1} {s = 0} {b = 1 ∷ []} {out = replicate 13 0} (omega arith)
+
+wrong-text : Wrong (outline 1 1 (1 ∷ 0 ∷ []) (7 ∷ []))
+unfolding grow parse foremost treeOf planted lines linesOf text stem decimal digits
+wrong-text = text-short {t = 1} {s = 1} {b = 1 ∷ 0 ∷ []} {text = 7 ∷ []} (omega arith)
 
 wrong-size : Wrong (read (13 ∷ 0 ∷ 1 ∷ 0 ∷ []) [])
 unfolding valueOf
@@ -273,3 +286,14 @@ explaining-200 p = omega (
   arith,
   accepted-counts {t = 200} {s = 0} _ _ of-explain (p .told (top 200 0) (top-schedule 200 0 (omega arith)) .2) .0,
 )
+
+-- the line 1 is written of 10, and the line 2 is not
+writes-1 : Writes 1 (1 ∷ 0 ∷ []) (49 ∷ 10 ∷ [])
+unfolding firstFrom ones zeros grow parse foremost treeOf planted lines linesOf text stem decimal digits
+writes-1 = record { text = 7 ∷ 7 ∷ []; rest = []; given = ((refl, refl), refl) }
+
+writes-2 : Writes 1 (1 ∷ 0 ∷ []) (50 ∷ 10 ∷ []) → ⊥
+writes-2 w =
+    let read = taken-1 _ refl (outlines .writes-read 1 _ (7 ∷ 7 ∷ []) _ w refl .1) in
+    let clash : _≡_ {A = ℕ} 50 49 = ap (λ (l : List ℕ). getD l 0 0) read in
+    omega arith

@@ -8,9 +8,11 @@ pub mod Near
 pub mod Surplus
 pub mod Explaining
 pub mod Catalogue
+pub mod Outlines
 pub mod Cases
 pub mod Shams
 pub mod ShamsBack
 pub mod ShamsExplain
 pub mod ShamsCatalogue
+pub mod ShamsOutline
 pub mod Handed

@@ -2,7 +2,8 @@
 -- contract gives, in the words of `Gives` and by computing it. A refused edit of docs/SHAMS.md shows that the written
 -- proof does not fit the wrong code; a theorem here, that no proof can: what meets the contract does not answer so.
 -- What is not the sham's own is left open: any verdict, any numbers, any content of what was lent. Those of the calls
--- back are in ShamsBack.antt, and what goes by another numbering is in ShamsCatalogue.antt.
+-- back are in ShamsBack.antt, of explaining in ShamsExplain.antt and of outlines in ShamsOutline.antt; what goes by
+-- another numbering is in ShamsCatalogue.antt.
 --     never     a refusal is not an acceptance
 --     Refuses everything [P3]: no refusal fits a call that has to be accepted.
 --     count-refusing, check-refusing, next-refusing, changed-refusing, run-refusing, run-changed-refusing [P3]

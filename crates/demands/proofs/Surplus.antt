@@ -4,15 +4,15 @@
 --     off-1010      and the check of 1010 for (3,1) says −1 and nothing else: not 1, which a sign exchanged, the
 --                   magnitude alone and the zeros over s would give [Q9]
 -- Assumes nothing.
-use mathlib.Core.Bool.{true}
+use mathlib.Core.Bool.{true, not}
 use mathlib.Core.List.{List, [], _∷_}
 use mathlib.Core.Path.{_≡_, refl, _∙_, ap, subst, sym}
 use Prim.Native.Nat.{ℕ}
 use native.Mathlib.Omega.{arith}
-use lib.Dec.{ltb}
+use lib.Dec.{eqb, ltb}
 use lib.IntN.{ℤ, pos, negsuc}
 use lib.ListN.{length}
-use Rattle.refusal.specs.declared.Refusal.the-variants.{WrongTakeUps, RunTooLong}
+use Rattle.refusal.specs.declared.Refusal.the-variants.{WrongTakeUps, NoRoom, RunTooLong, NotClosed}
 use Rattle.refusal.specs.declared.Verdict.{Verdict}
 use Rattle.refusal.specs.Answer.{refusal, surplus, verdict, answer}
 use Rattle.refusal.specs.Rows.{Row, _⇒_, judge}
@@ -28,6 +28,10 @@ use Rattle.circle.specs.Answers.{mostSteps, runRows}
 use Rattle.form.specs.Answers.{formRows, sheetRows}
 use Rattle.tree.specs.Table.{Treed, filled, kept, treeRows, lentRows}
 use Rattle.tree_back.specs.Back.{Untreed, found, none, unfit}
+use Rattle.outline.specs.Text.{printed}
+use Rattle.outline.specs.Answers.{closedRows, outlineRows}
+use Rattle.outline_back.specs.Back.{Back, backRows}
+use Rattle.outline_back.specs.Back as outlined
 use Rattle.record.specs.Record.{readRows, roomRow, recordOf, writeRows}
 use Rattle.reader.proofs.Sixes.{read-sixes}
 use Rattle.reader.proofs.Verdicts.{told-verdict}
@@ -49,6 +53,8 @@ use Rattle.demands.specs.Calls.{
   form-on-sheet,
   tree,
   schedule-of-tree,
+  outline,
+  schedule-of-outline,
   read,
   write,
   Gives,
@@ -58,6 +64,7 @@ use Rattle.demands.specs.Calls.{
   of-explain,
   of-number,
   of-tree,
+  of-outline,
   of-write,
   in-check,
   in-move,
@@ -65,6 +72,7 @@ use Rattle.demands.specs.Calls.{
   in-explain,
   in-number,
   in-tree,
+  in-outline,
   in-write,
 }
 use Rattle.demands.specs.Surplus.{About, lent-to, packed, Passes}
@@ -106,6 +114,14 @@ write-sixes kind t s b out =
     let known = sixless-all (Off t b) short refl in
     (λ so six. absurd (omega arith), all-join (Six (Off t b)) (checkRows t s b) short (check-sixes t b s) known)
 
+outline-sixes : (t s : ℕ) (b : List ℕ) (room : ℕ) → All (Six (Off t b)) (outlineRows t s b room)
+outline-sixes t s b room =
+    let unclosed = (not (eqb t s) ⇒ NotClosed) ∷ [] in
+    let short = (ltb room (length (printed b)) ⇒ NoRoom) ∷ [] in
+    let free = sixless-all (Off t b) unclosed refl in
+    let closed = all-join (Six (Off t b)) (checkRows t s b) unclosed (check-sixes t b s) free in
+    all-join (Six (Off t b)) (closedRows t s b) short closed (sixless-all (Off t b) short refl)
+
 tree-sixes : (n : ℕ) (b l r p : List ℕ) → All (Six (Off n b)) (treeRows n b l r p)
 tree-sixes n b l r p =
     let sizes = lentRows n b l r p in
@@ -123,6 +139,11 @@ back-six (none e q) six = absurd (omega arith)
 back-six {n = n} {l = l} {r = r} {p = p} {b = b} (unfit e) six =
     never (lentRows n b l r p) refl (sym e) six
 
+outline-six : {A : Type 0} {n : ℕ} {text b b′ : List ℕ} {v : Verdict} → Back n text b v b′ → refusal v ≡ 6 → A
+outline-six (outlined.found o e q i) six = absurd (omega arith)
+outline-six (outlined.none e q w) six = absurd (omega arith)
+outline-six {n = n} {b = b} (outlined.unfit e) six = never (backRows n (length b)) refl (sym e) six
+
 passes-six : (c : Call) (v : Verdict) (m : List ℕ) (x : List (List ℕ)) → Gives c v m x → refusal v ≡ 6
     → (t : ℕ) × (b : List ℕ) × About c t b × Off t b (surplus v)
 passes-six (count t s) v m x g =
@@ -138,6 +159,10 @@ passes-six (form t s n out) v m x g = never (formRows t s n out) refl (g .0 .0)
 passes-six (form-on-sheet t s n sheet column) v m x g = never (sheetRows t s n sheet column) refl (g .0 .0)
 passes-six (tree n b l r p) v m x g = tree-six (g .3)
 passes-six (schedule-of-tree n l r p out) v m x g = back-six (g .1)
+passes-six (outline t s b text) v m x g =
+    answers (lent-to of-outline in-outline) (outlineRows t s b (length text)) (outline-sixes t s b (length text)) _
+    (g .0 .0)
+passes-six (schedule-of-outline n text out) v m x g = outline-six (g .1)
 passes-six (read src out) v m x g =
     let rows = readRows (length out) src in
     says packed rows (read-sixes (length out) src) (g .0 .0 ∙ told-verdict _ _ _ _ (judge rows))

@@ -1,7 +1,7 @@
 -- The library's entry points as calls, and what each of them answers and leaves, by the words of its contract;
 -- src/lib.rt proves that of each function. Those that are not here answer a part of these: each C function but
--- gv_version one number of one of them, by an equation with the same definition, and the functions that take a list of
--- counts the same; the lines of the lists are `lists`'. Definitions only.
+-- gv_version one number of one of them, by the same definition, and the functions that take a list of counts the same;
+-- the lines of the lists are `lists`'. Definitions only.
 --     Move            a step or a run of k steps, on or back
 --     moveAnswer      the beats that a move changes, or its refusal
 --     moveLeft        the schedule that it leaves
@@ -31,6 +31,8 @@ use Rattle.reason.specs.Answers.{explained, numbers}
 use Rattle.number.specs.Answers.{numberAnswer}
 use Rattle.tree.specs.Table.{Treed}
 use Rattle.tree_back.specs.Back.{Untreed}
+use Rattle.outline.specs.Answers.{outlineAnswer, outlineLeft}
+use Rattle.outline_back.specs.Back.{Back}
 use Rattle.record.specs.Record.{ups, downs, writeAnswer, writeLeft}
 use Rattle.reader.specs.Answers.{readAnswer, readLeft}
 use Rattle.record.specs.Parts as said
@@ -64,6 +66,8 @@ pub data Call : Type 0 where
   form-on-sheet : (t s n : ℕ) (sheet : List ℕ) (column : ℕ) → Call
   tree : (n : ℕ) (beats left right parent : List ℕ) → Call
   schedule-of-tree : (n : ℕ) (left right parent out : List ℕ) → Call
+  outline : (t s : ℕ) (beats text : List ℕ) → Call
+  schedule-of-outline : (n : ℕ) (text out : List ℕ) → Call
   read : (src out : List ℕ) → Call
   write : (kind t s : ℕ) (beats out : List ℕ) → Call
 
@@ -78,6 +82,8 @@ lent (form t s n out) = out ∷ []
 lent (form-on-sheet t s n sheet column) = sheet ∷ []
 lent (tree n b l r p) = b ∷ l ∷ r ∷ p ∷ []
 lent (schedule-of-tree n l r p out) = l ∷ r ∷ p ∷ out ∷ []
+lent (outline t s b text) = b ∷ text ∷ []
+lent (schedule-of-outline n text out) = text ∷ out ∷ []
 lent (read src out) = src ∷ out ∷ []
 lent (write kind t s b out) = b ∷ out ∷ []
 
@@ -98,6 +104,9 @@ Gives (tree n b l r p) v m x =
     (l′ : List ℕ) × (r′ : List ℕ) × (p′ : List ℕ) × Treed n b l r p v l′ r′ p′ × (m ≡ []) × (x ≡ b ∷ l′ ∷ r′ ∷ p′ ∷ [])
 Gives (schedule-of-tree n l r p out) v m x =
     (b′ : List ℕ) × Untreed n l r p out v b′ × (m ≡ []) × (x ≡ l ∷ r ∷ p ∷ b′ ∷ [])
+Gives (outline t s b text) v m x = Says (outlineAnswer t s b text) v m × (x ≡ b ∷ outlineLeft t s b text ∷ [])
+Gives (schedule-of-outline n text out) v m x =
+    (b′ : List ℕ) × Back n text out v b′ × (m ≡ []) × (x ≡ text ∷ b′ ∷ [])
 Gives (read src out) v m x =
     let a = readAnswer src out in
     ((v ≡ said.verdict a) × (m ≡ said.t a ∷ said.s a ∷ said.number a ∷ said.consumed a ∷ []))
@@ -116,6 +125,8 @@ silenced (form t s n out) m = m
 silenced (form-on-sheet t s n sheet column) m = m
 silenced (tree n b l r p) m = m
 silenced (schedule-of-tree n l r p out) m = m
+silenced (outline t s b text) m = m
+silenced (schedule-of-outline n text out) m = m
 silenced (write kind t s b out) m = m
 
 pub data CountsOf : Call → ℕ → ℕ → Type 0 where
@@ -129,6 +140,8 @@ pub data CountsOf : Call → ℕ → ℕ → Type 0 where
   of-form-on-sheet : {t s n : ℕ} {sheet : List ℕ} {column : ℕ} → CountsOf (form-on-sheet t s n sheet column) t s
   of-tree : {n : ℕ} {b l r p : List ℕ} → CountsOf (tree n b l r p) n n
   of-schedule-of-tree : {n : ℕ} {l r p out : List ℕ} → CountsOf (schedule-of-tree n l r p out) n n
+  of-outline : {t s : ℕ} {b text : List ℕ} → CountsOf (outline t s b text) t s
+  of-schedule-of-outline : {n : ℕ} {text out : List ℕ} → CountsOf (schedule-of-outline n text out) n n
   of-read : {src out : List ℕ} → CountsOf (read src out) (ups src) (downs src)
   of-write : {kind t s : ℕ} {b out : List ℕ} → CountsOf (write kind t s b out) t s
 
@@ -139,6 +152,7 @@ pub data BeatsOf : Call → List ℕ → Type 0 where
   in-explain : {t s : ℕ} {b : List ℕ} → BeatsOf (explain t s b) b
   in-number : {t s : ℕ} {b : List ℕ} → BeatsOf (number t s b) b
   in-tree : {n : ℕ} {b l r p : List ℕ} → BeatsOf (tree n b l r p) b
+  in-outline : {t s : ℕ} {b text : List ℕ} → BeatsOf (outline t s b text) b
   in-write : {kind t s : ℕ} {b out : List ℕ} → BeatsOf (write kind t s b out) b
 
 pub data Owed : Call → List ℕ → ℕ → Type 0 where
@@ -151,3 +165,4 @@ pub data Owed : Call → List ℕ → ℕ → Type 0 where
   from-right : {n : ℕ} {l r p out : List ℕ} → Owed (schedule-of-tree n l r p out) r n
   from-parent : {n : ℕ} {l r p out : List ℕ} → Owed (schedule-of-tree n l r p out) p n
   schedule : {n : ℕ} {l r p out : List ℕ} → Owed (schedule-of-tree n l r p out) out (n + n)
+  outlined : {n : ℕ} {text out : List ℕ} → Owed (schedule-of-outline n text out) out (n + n)

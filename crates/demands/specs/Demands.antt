@@ -29,12 +29,13 @@ use Rattle.circle.specs.Walk as walk
 use Rattle.circle.specs.Answers.{mostSteps}
 use Rattle.number.specs.Number.{Fewest, start}
 use Rattle.number.specs.Groups.{S}
+use Rattle.outline.specs.Text.{printed}
 use Rattle.record.specs.Bytes.{valueOf, bytesFor}
 use Rattle.record.specs.declared.layout.Layout.{Layout}
 use Rattle.record.specs.declared.layout.Numbering.{Numbering}
 use Rattle.record.specs.Layout.{numberBytes}
 use Rattle.record.specs.Record.{recordOf, long, layoutIn, ups, downs, body, cut}
-use Rattle.demands.specs.Calls.{Call, count, move, next, run, number, form, form-on-sheet}
+use Rattle.demands.specs.Calls.{Call, count, move, next, run, number, form, form-on-sheet, outline}
 use Rattle.demands.specs.Calls.{read, write, lent, Gives, silenced, CountsOf, BeatsOf, Owed}
 
 pub data Wrong : Call → Type 0 where
@@ -51,6 +52,7 @@ pub data Wrong : Call → Type 0 where
   places-few : {src out : List ℕ} → length out < mostBeats → Wrong (read src out)
   room-short : {kind t s : ℕ} {b out : List ℕ} → length out < length (recordOf kind t s b)
       → Wrong (write kind t s b out)
+  text-short : {t s : ℕ} {b text : List ℕ} → length text < length (printed b) → Wrong (outline t s b text)
   size-tiny : {src out : List ℕ} → long src < 2 → Wrong (read src out)
   size-numbered : {src out : List ℕ} {at : ℕ} {by : Numbering} → layoutIn src ≡ Layout.Numbered at by
       → long src ≢ at + numberBytes → Wrong (read src out)

@@ -5,3 +5,4 @@ pub mod Backwards
 pub mod Surplus
 pub mod Explaining
 pub mod Catalogue
+pub mod Outlines

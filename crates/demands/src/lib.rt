@@ -124,6 +124,20 @@ fn schedule_of_tree(n: u64, left: &[u8], right: &[u8], parent: &[u8], out: &mut 
     tree_back::schedule_of_tree(n, left, right, parent, out)
 }
 
+fn outline(t: u64, s: u64, beats: &[u8], text: &mut [u8]) -> Answer
+    ensures { λ r. ⌜ Gives (call.outline t s (now (beats .entry)) (now (text .entry))) (verdict r) (value r
+        ∷ []) (now (beats .exit) ∷ now (text .exit) ∷ []) ⌝ }
+{
+    outline::outline(t, s, beats, text)
+}
+
+fn schedule_of_outline(n: u64, text: &[u8], out: &mut [u8]) -> Verdict
+    ensures { λ r. ⌜ Gives (call.schedule-of-outline n (now (text .entry)) (now (out .entry))) r []
+        (now (text .exit) ∷ now (out .exit) ∷ []) ⌝ }
+{
+    outline_back::schedule_of_outline(n, text, out)
+}
+
 fn read(src: &[u8], out: &mut [u8]) -> Reading
     ensures { λ r. ⌜ Gives (call.read (now (src .entry)) (now (out .entry))) (said.verdict r) (said.t r ∷ said.s r
         ∷ said.number r ∷ said.consumed r ∷ []) (now (src .exit) ∷ now (out .exit) ∷ []) ⌝ }
