@@ -24,6 +24,7 @@ static struct {
     int slice;              /* whether it is lent that of in */
     const char *name;       /* of a further number, or NULL */
     uint64_t number;
+    const struct text *text; /* or NULL */
 } asked;
 
 static void begin(const char *call, const struct input *in, int slice, const char *name, uint64_t number) {
@@ -32,7 +33,14 @@ static void begin(const char *call, const struct input *in, int slice, const cha
     asked.slice = slice;
     asked.name = name;
     asked.number = number;
+    asked.text = NULL;
     calls++;
+}
+
+/* A call that is lent a slice and a text. */
+static void begin_text(const char *call, const struct input *in, const struct text *text) {
+    begin(call, in, 1, NULL, 0);
+    asked.text = text;
 }
 
 uint64_t calls_made(void) {
@@ -49,6 +57,18 @@ static void print_bytes(const uint8_t *bytes, size_t length) {
     printf("]");
 }
 
+/* Its bytes as C writes them. */
+static void print_text(const uint8_t *bytes, size_t length) {
+    size_t at;
+    printf("\"");
+    for (at = 0; at < length; at++)
+        if (bytes[at] == '\n')
+            printf("\\n");
+        else
+            printf(bytes[at] >= ' ' && bytes[at] <= '~' ? "%c" : "\\%03o", bytes[at]);
+    printf("\"");
+}
+
 static void print_call(void) {
     printf("%s(", asked.function);
     if (asked.in != NULL)
@@ -60,6 +80,11 @@ static void print_call(void) {
     }
     if (asked.name != NULL)
         printf(", %s = %" PRIu64, asked.name, asked.number);
+    if (asked.text != NULL) {
+        printf(", text = ");
+        print_text(asked.text->bytes, asked.text->room);
+        printf(", room = %zu", asked.text->room);
+    }
     printf("): ");
 }
 
@@ -120,22 +145,30 @@ static void expect(int64_t expected, int64_t got) {
     give_up();
 }
 
-/* The slice holds what it should after the call, and nothing around it has changed. */
-static void expect_left(const uint8_t *expected) {
-    size_t length = asked.in->length;
-    if (memcmp(lent_bytes(), expected, length) != 0) {
+/* A slice holds what it should after the call, and nothing around it has changed. */
+static void expect_lent(enum lent what, const uint8_t *expected, size_t length,
+                        void (*print)(const uint8_t *bytes, size_t length)) {
+    if (memcmp(lent_bytes(what), expected, length) != 0) {
         print_call();
         printf("expected to leave ");
-        print_bytes(expected, length);
+        print(expected, length);
         printf(", got ");
-        print_bytes(lent_bytes(), length);
+        print(lent_bytes(what), length);
         give_up();
     }
-    if (!guards_hold()) {
+    if (!guards_hold(what)) {
         print_call();
         printf("wrote outside its slice");
         give_up();
     }
+}
+
+static void expect_left(const uint8_t *expected) {
+    expect_lent(BEATS, expected, asked.in->length, print_bytes);
+}
+
+static void expect_text(const uint8_t *expected) {
+    expect_lent(TEXT, expected, asked.text->room, print_text);
 }
 
 /* One call each. */
@@ -170,12 +203,12 @@ static void ask_lent(const char *name, reading_function *call, const struct inpu
 }
 
 static void ask_reading(const char *name, reading_function *call, const struct input *in, uint64_t expected) {
-    ask_lent(name, call, in, lend_for_reading(in->beats, in->length), expected);
+    ask_lent(name, call, in, lend_for_reading(BEATS, in->beats, in->length), expected);
     expect_left(in->beats);
 }
 
 static void ask_surplus(const char *name, surplus_function *call, const struct input *in, int64_t expected) {
-    const uint8_t *beats = lend_for_reading(in->beats, in->length);
+    const uint8_t *beats = lend_for_reading(BEATS, in->beats, in->length);
     begin(name, in, 1, NULL, 0);
     expect(expected, call(in->t, in->s, beats, in->length));
     expect_left(in->beats);
@@ -183,7 +216,7 @@ static void ask_surplus(const char *name, surplus_function *call, const struct i
 
 static void ask_step(const char *name, stepping_function *call, const struct input *in, uint64_t refusal,
                      const uint8_t *left) {
-    uint8_t *beats = lend(in->beats, in->length);
+    uint8_t *beats = lend(BEATS, in->beats, in->length);
     begin(name, in, 1, NULL, 0);
     expect(refusal, call(in->t, in->s, beats, in->length));
     expect_left(left);
@@ -191,14 +224,14 @@ static void ask_step(const char *name, stepping_function *call, const struct inp
 
 static void ask_run(const struct way *way, const struct input *in, uint64_t steps, uint64_t refusal,
                     const uint8_t *left) {
-    uint8_t *beats = lend(in->beats, in->length);
+    uint8_t *beats = lend(BEATS, in->beats, in->length);
     begin(way->name, in, 1, "steps", steps);
     expect(refusal, way->run(in->t, in->s, beats, in->length, steps));
     expect_left(left);
 }
 
 static void ask_run_changed(const struct way *way, const struct input *in, uint64_t steps, uint64_t changed) {
-    const uint8_t *beats = lend_for_reading(in->beats, in->length);
+    const uint8_t *beats = lend_for_reading(BEATS, in->beats, in->length);
     begin(way->changed_name, in, 1, "steps", steps);
     expect(changed, way->changed(in->t, in->s, beats, in->length, steps));
     expect_left(in->beats);
@@ -221,7 +254,7 @@ static void ask_there_and_back(const struct way *there, const struct way *back, 
 }
 
 static void ask_form(const struct input *in, uint64_t number, uint64_t refusal, const uint8_t *left) {
-    uint8_t *out = lend(in->beats, in->length);
+    uint8_t *out = lend(BEATS, in->beats, in->length);
     begin("gv_form", in, 1, "number", number);
     expect(refusal, gv_form(in->t, in->s, number, out, in->length));
     expect_left(left);
@@ -276,7 +309,7 @@ void verify_previous(const struct input *in, uint64_t refusal, uint64_t changed,
 /* The four calls are lent one slice: lending takes longer than a call that is refused. */
 void verify_explanation(const struct input *in, uint64_t refusal, uint64_t which) {
     static const struct explanation none = {0, NO_PLACE, NO_PLACE, 0, {0}};
-    const uint8_t *beats = lend_for_reading(in->beats, in->length);
+    const uint8_t *beats = lend_for_reading(BEATS, in->beats, in->length);
     struct explanation own;
     const struct explanation *why = refusal != 0 ? &none : &own;
     if (refusal == 0)
@@ -287,6 +320,64 @@ void verify_explanation(const struct input *in, uint64_t refusal, uint64_t which
     begin("gv_explain_changed_place", in, 1, "which", which);
     expect(changed_place(why, which), gv_explain_changed_place(in->t, in->s, beats, in->length, which));
     expect_left(in->beats);
+}
+
+/* The parts of a call, which are lent two slices for reading. */
+static void ask_outline(const struct input *in, const struct text *text, struct verdict verdict, const uint8_t *beats) {
+    const uint8_t *lent = lend_for_reading(TEXT, text->bytes, text->room);
+    begin_text("gv_outline_refusal", in, text);
+    expect(verdict.refusal, gv_outline_refusal(in->t, in->s, beats, in->length, lent, text->room));
+    begin_text("gv_outline_place", in, text);
+    expect(verdict.place, gv_outline_place(in->t, in->s, beats, in->length, lent, text->room));
+    begin_text("gv_outline_surplus", in, text);
+    expect(verdict.surplus, gv_outline_surplus(in->t, in->s, beats, in->length, lent, text->room));
+    expect_text(text->bytes);
+}
+
+void verify_outline(const struct input *in, const struct text *text) {
+    struct verdict verdict = judge_outline(in->t, in->s, in->beats, in->length, text->room);
+    const uint8_t *beats = lend_for_reading(BEATS, in->beats, in->length);
+    uint8_t own[MOST_TEXT], left[TEXT_ROOM], *lent;
+    size_t written = verdict.refusal != 0 ? 0 : write_outline(in->beats, in->length, own);
+    memcpy(left, text->bytes, text->room);
+    memcpy(left, own, written);
+    ask_outline(in, text, verdict, beats);
+    lent = lend(TEXT, text->bytes, text->room);
+    begin_text("gv_outline", in, text);
+    expect((int64_t)written, gv_outline(in->t, in->s, beats, in->length, lent, text->room));
+    expect_left(in->beats);
+    expect_text(left);
+}
+
+void verify_outline_read(const struct input *in, const struct text *text) {
+    uint8_t own[MOST_BEATS], *out;
+    const uint8_t *lent = lend_for_reading(TEXT, text->bytes, text->room);
+    const uint8_t *kept = lend_for_reading(BEATS, in->beats, in->length);
+    struct verdict verdict = read_outline(in->t, text->bytes, text->room, in->length, own);
+    begin_text("gv_outline_read_place", in, text);
+    expect(verdict.place, gv_outline_read_place(in->t, lent, text->room, kept, in->length));
+    expect_left(in->beats);
+    out = lend(BEATS, in->beats, in->length);
+    begin_text("gv_outline_read", in, text);
+    expect(verdict.refusal, gv_outline_read(in->t, lent, text->room, out, in->length));
+    expect_left(verdict.refusal != 0 ? in->beats : own);
+    expect_text(text->bytes);
+}
+
+/* The text that is lent next: for a closed schedule of about the room that it needs, or as much as any does, and for
+   others of little. Its bytes are of no outline. */
+static const struct text *next_text(const struct input *in, uint64_t refusal) {
+    static struct text text;
+    static size_t turn;
+    uint8_t own[MOST_TEXT];
+    size_t needed, closed = refusal == 0 && in->t == in->s;
+    if (turn++ == 0)
+        memset(text.bytes, 0xEE, sizeof text.bytes);
+    needed = closed ? write_outline(in->beats, in->length, own) : 1;
+    text.room = closed && turn % 8 == 0 ? TEXT_ROOM : needed + turn % 3;
+    if (text.room > 0)
+        text.room--;
+    return &text;
 }
 
 /* Which changed place is asked for next: those that there may be, in turn, and some that there are not. */
@@ -320,6 +411,7 @@ void verify_schedule(const struct input *in) {
     ask_step("gv_next", gv_next, in, verdict.refusal, next);
     verify_previous(in, verdict.refusal, changed_back, previous);
     verify_explanation(in, verdict.refusal, next_which());
+    verify_outline(in, next_text(in, verdict.refusal));
 }
 
 void verify_run(const struct input *in, uint64_t steps) {
@@ -354,14 +446,19 @@ void verify_form(const struct input *in, uint64_t number) {
 /* The long slice: t + s in its low half. */
 static const size_t LONG_LENGTH = ((size_t)1 << 32) + 5;
 
-/* So many zeros, in memory that cannot be written. */
-static const uint8_t *map_zeros(size_t length) {
-    void *zeros = mmap(NULL, length, PROT_READ, MAP_PRIVATE | MAP_ANONYMOUS | MAP_NORESERVE, -1, 0);
+/* So many zeros, in memory with this protection. */
+static uint8_t *map_long(size_t length, int protection) {
+    void *zeros = mmap(NULL, length, protection, MAP_PRIVATE | MAP_ANONYMOUS | MAP_NORESERVE, -1, 0);
     if (zeros == MAP_FAILED) {
         printf("there is no memory for a slice of %zu bytes", length);
         give_up();
     }
-    return (const uint8_t *)zeros;
+    return (uint8_t *)zeros;
+}
+
+/* So many zeros, in memory that cannot be written. */
+static const uint8_t *map_zeros(size_t length) {
+    return map_long(length, PROT_READ);
 }
 
 static void ask_long(const char *name, reading_function *call, const uint8_t *zeros, uint64_t expected) {
@@ -413,6 +510,46 @@ static uint64_t changed_place_of_zeros(uint64_t t, uint64_t s, const uint8_t *be
     return gv_explain_changed_place(t, s, beats, length, 0);
 }
 
+/* The outline is lent no room, which is asked for after the length. */
+
+static uint64_t outline_refusal_of_zeros(uint64_t t, uint64_t s, const uint8_t *beats, size_t length) {
+    return gv_outline_refusal(t, s, beats, length, beats, 0);
+}
+
+static uint64_t outline_place_of_zeros(uint64_t t, uint64_t s, const uint8_t *beats, size_t length) {
+    return gv_outline_place(t, s, beats, length, beats, 0);
+}
+
+static uint64_t outline_surplus_of_zeros(uint64_t t, uint64_t s, const uint8_t *beats, size_t length) {
+    return (uint64_t)gv_outline_surplus(t, s, beats, length, beats, 0);
+}
+
+static uint64_t outline_of_zeros(uint64_t t, uint64_t s, const uint8_t *beats, size_t length) {
+    return gv_outline(t, s, beats, length, (uint8_t *)beats, 0);
+}
+
+/* A text with room enough, of which the low half alone would be too little; then an outline with zeros after it, which
+   that half leaves out; and as many bytes lent for the beats. */
+static void verify_long_text(void) {
+    static const uint8_t beats[] = {1, 0};
+    size_t room = ((size_t)1 << 32) + 1;
+    uint8_t *text = map_long(room + 3, PROT_READ | PROT_WRITE), out[] = {9, 9};
+    begin("gv_outline_refusal", NULL, 0, "room", room);
+    expect(0, gv_outline_refusal(1, 1, beats, 2, text, room));
+    begin("gv_outline", NULL, 0, "room", room);
+    expect(2, gv_outline(1, 1, beats, 2, text, room));
+    expect(0, memcmp(text, "1\n\0", 3));
+    begin("gv_outline_read_place", NULL, 0, "room", room + 1);
+    expect(1, gv_outline_read_place(1, text, room + 1, out, 2));
+    begin("gv_outline_read", NULL, 0, "room", room + 1);
+    expect(15, gv_outline_read(1, text, room + 1, out, 2));
+    expect(9, out[0]);
+    begin("gv_outline_read", NULL, 0, "length", room + 1);
+    expect(3, gv_outline_read(1, beats, 0, text, room + 1));
+    expect(0, memcmp(text, "1\n\0", 3));
+    munmap(text, room + 3);
+}
+
 void verify_long_slice(void) {
     const uint8_t *zeros = map_zeros(LONG_LENGTH);
     ask_long("gv_check_refusal", gv_check_refusal, zeros, 3);
@@ -431,9 +568,14 @@ void verify_long_slice(void) {
     ask_long("gv_explain_found", gv_explain_found, zeros, NO_PLACE);
     ask_long("gv_explain_moved", gv_explain_moved, zeros, NO_PLACE);
     ask_long("gv_explain_changed_place", changed_place_of_zeros, zeros, NO_PLACE);
+    ask_long("gv_outline_refusal", outline_refusal_of_zeros, zeros, 3);
+    ask_long("gv_outline_place", outline_place_of_zeros, zeros, 0);
+    ask_long("gv_outline_surplus", outline_surplus_of_zeros, zeros, 0);
+    ask_long("gv_outline", outline_of_zeros, zeros, 0);
     ask_long("gv_run", run_of_zeros, zeros, 3);
     ask_long("gv_run_changed", run_changed_of_zeros, zeros, 0);
     ask_long("gv_run_back", run_back_of_zeros, zeros, 3);
     ask_long("gv_run_back_changed", run_back_changed_of_zeros, zeros, 0);
     munmap((void *)zeros, LONG_LENGTH);
+    verify_long_text();
 }

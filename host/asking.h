@@ -11,13 +11,19 @@
 
 #include "ghanveltri.h"
 
-enum { ROOM = GV_MAX_BEATS + 16 };
+enum { ROOM = GV_MAX_BEATS + 16, TEXT_ROOM = GV_LONGEST_OUTLINE + 64 };
 
 /* Counts, and a slice. */
 struct input {
     uint64_t t, s;
     size_t length;
     uint8_t beats[ROOM];
+};
+
+/* A text, of which so many bytes are lent. */
+struct text {
+    size_t room;
+    uint8_t bytes[TEXT_ROOM];
 };
 
 /* Counts, and beats by their digits. */
@@ -35,7 +41,7 @@ void verify_version(void);
 /* gv_count and what belongs to it. */
 void verify_counts(uint64_t t, uint64_t s);
 
-/* Everything that is asked of counts and a slice alone: check, number, next, previous, explain. */
+/* Everything that is asked of counts and a slice alone: check, number, next, previous, explain; and the outline. */
 void verify_schedule(const struct input *in);
 
 /* gv_previous and gv_previous_changed, held to what the caller gives. */
@@ -54,7 +60,13 @@ void verify_run_back(const struct input *in, uint64_t steps);
 /* gv_form; the slice is lent to be written. */
 void verify_form(const struct input *in, uint64_t number);
 
-/* A slice of 2^32 + 5 bytes, whose length is t + s in its low half alone. */
+/* gv_outline and what belongs to it; the text is lent to be written. */
+void verify_outline(const struct input *in, const struct text *text);
+
+/* gv_outline_read and gv_outline_read_place; t is the number of lines, and the slice is lent to be written. */
+void verify_outline_read(const struct input *in, const struct text *text);
+
+/* A slice of 2^32 + 5 bytes, whose length is t + s in its low half alone; and texts whose length has that half. */
 void verify_long_slice(void);
 
 /* Ends the program where the library's answers to several calls on an input do not fit together. */

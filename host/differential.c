@@ -2,8 +2,9 @@
  * Holds every function of include/ghanveltri.h to host/independent.c: differential [--brief] [SEED].
  *
  * Exhaustive for small counts and short lists, random for the rest: host/choosing.c chooses, host/asking.c makes
- * the calls, and the part of the explanations is host/explaining.c. The random part comes from a new seed, which is
- * printed; giving it repeats a run. --brief makes every part smaller. Ends with status 1 at the first difference.
+ * the calls, and the parts of the explanations and of the outlines are host/explaining.c and host/outlining.c. The
+ * random part comes from a new seed, which is printed; giving it repeats a run. --brief makes every part smaller.
+ * Ends with status 1 at the first difference.
  */
 #define _POSIX_C_SOURCE 200809L
 #include <inttypes.h>
@@ -16,6 +17,7 @@
 #include "choosing.h"
 #include "explaining.h"
 #include "independent.h"
+#include "outlining.h"
 
 /* How far each part goes. */
 static struct extent {
@@ -25,9 +27,11 @@ static struct extent {
     unsigned large;        /* random forms for each pair of counts */
     unsigned mixed;        /* random calls of every kind */
     unsigned runs;         /* long runs */
-} extent = {9, 7, 12, 7, 100, 200000, 100};
+    uint64_t outlines;     /* every outline of lines up to this */
+    uint64_t texts, bytes; /* every damage of its text, and every value of its bytes, up to these */
+} extent = {9, 7, 12, 7, 100, 200000, 100, 9, 8, 8};
 
-static const struct extent BRIEF = {9, 6, 8, 6, 20, 20000, 16};
+static const struct extent BRIEF = {9, 6, 8, 6, 20, 20000, 16, 8, 5, 3};
 
 /* As many steps on and back. */
 static void verify_runs(const struct input *in, uint64_t steps) {
@@ -111,6 +115,7 @@ static void refused_examples(void) {
 static void examples(void) {
     size_t at;
     explained_examples();
+    outlined_examples();
     for (at = 0; at < sizeof EXAMPLES / sizeof EXAMPLES[0]; at++)
         verify_example(&EXAMPLES[at]);
     refused_examples();
@@ -197,6 +202,10 @@ static void verify_circle_back(uint64_t t, uint64_t s) {
         verify_previous(&in, 0, changed[number - 1], order[number - 1]);
         memcpy(in.beats, order[number - 1], t + s);
     }
+}
+
+static void small_outlines(void) {
+    outlines(extent.outlines, extent.texts, extent.bytes);
 }
 
 /* Every circle of small counts. [V15] */
@@ -502,6 +511,8 @@ static const struct {
     {"examples", examples},
     {"circles back", circles_back},
     {"explanations", explanations},
+    {"small outlines", small_outlines},
+    {"large outlines", large_outlines},
     {"small forms", small_forms},
     {"damaged forms", damaged_forms},
     {"surpluses", surpluses},

@@ -2,7 +2,7 @@
 """The manual's explanations once more, on top of the oracle, for the tests: host/explaining.py < records > lines.
 
 Records are read by host/packing.py, and refused as there. body_line(body) is the line of a record by what stands after
-its length, and output(data) what the list writes.
+its length, or None, and output(data) what the list writes.
 """
 import functools
 import sys

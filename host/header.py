@@ -10,7 +10,7 @@ from verifying import ROOT
 HEADER = ROOT / "include/ghanveltri.h"
 ARCHIVE = ROOT / "target/host/libghanveltri.a"
 FUNCTION = r"(\w+(?: \w+)*[ *]*)\b(gv_\w+) ?\(([^)]*)\) ?"
-NO_REFUSALS = re.compile(r"GV_(VERSION|MAX_|NO_PLACE$)")
+NO_REFUSALS = re.compile(r"GV_(VERSION|MAX_|LONGEST_|NO_PLACE$)")
 HOW = "rt staticlib ghanveltri && host/build"
 
 

@@ -268,3 +268,106 @@ void form_before(uint64_t t, uint64_t s, const uint8_t *beats, uint64_t steps, u
     uint64_t forms = count_by_formula(t, s), number = number_by_groups(t, s, beats), fewer = steps % forms;
     form_by_groups(t, s, number >= fewer ? number - fewer : number + (forms - fewer), out);
 }
+
+/* A heading's number: the places on the way to it, the topmost first. Of the start of an outline there are none. */
+struct heading {
+    size_t depth;
+    unsigned places[MOST_TASKS];
+};
+
+/* For each level two digits at most, and a dot or the line feed. */
+enum { LINE_ROOM = 3 * MOST_TASKS };
+
+/* Writes the line of a heading, with its line feed, and answers its bytes. */
+static size_t write_line(const struct heading *heading, uint8_t *out) {
+    size_t level, length = 0;
+    for (level = 0; level < heading->depth; level++) {
+        unsigned place = heading->places[level];
+        if (place > 9)
+            out[length++] = (uint8_t)('0' + place / 10);
+        out[length++] = (uint8_t)('0' + place % 10);
+        out[length++] = level + 1 < heading->depth ? '.' : '\n';
+    }
+    return length;
+}
+
+/* The counter of a level has its last heading's place. A 1 counts on; a 0 closes a heading, and the next one below its
+   sister is the first there. */
+size_t write_outline(const uint8_t *beats, size_t length, uint8_t *out) {
+    struct heading last = {0, {0}};
+    unsigned counters[MOST_TASKS + 1] = {0};
+    size_t at, written = 0;
+    for (at = 0; at < length; at++) {
+        if (beats[at] == 0) {
+            counters[last.depth--] = 0;
+            continue;
+        }
+        last.places[last.depth] = ++counters[last.depth];
+        last.depth++;
+        written += write_line(&last, out + written);
+    }
+    return written;
+}
+
+struct verdict judge_outline(uint64_t t, uint64_t s, const uint8_t *beats, size_t length, size_t room) {
+    struct verdict schedule = judge_schedule(t, s, beats, length);
+    uint8_t text[MOST_TEXT];
+    if (schedule.refusal != 0)
+        return schedule;
+    if (t != s)
+        return refused(14, 0);
+    if (write_outline(beats, length, text) > room)
+        return refused(12, 0);
+    return accepted();
+}
+
+/* The heading of this depth that may come after one: the first below it, or the next sister of it or of one above. */
+static struct heading next_heading(const struct heading *last, size_t depth) {
+    struct heading next = *last;
+    next.depth = depth;
+    next.places[depth - 1] = depth > last->depth ? 1 : last->places[depth - 1] + 1;
+    return next;
+}
+
+/* Whether a text begins with the line of a heading; how many bytes that has, or 0. */
+static size_t begins_with(const uint8_t *text, size_t room, const struct heading *heading) {
+    uint8_t line[LINE_ROOM];
+    size_t length = write_line(heading, line);
+    return length <= room && memcmp(text, line, length) == 0 ? length : 0;
+}
+
+/* Takes the line that a text begins with for the next heading, whichever depth it has; answers its bytes, or 0. */
+static size_t read_line(const uint8_t *text, size_t room, struct heading *last) {
+    size_t depth, length;
+    for (depth = 1; depth <= last->depth + 1; depth++) {
+        struct heading next = next_heading(last, depth);
+        length = begins_with(text, room, &next);
+        if (length > 0) {
+            *last = next;
+            return length;
+        }
+    }
+    return 0;
+}
+
+struct verdict read_outline(uint64_t n, const uint8_t *text, size_t room, size_t length, uint8_t *out) {
+    struct heading last = {0, {0}};
+    size_t bytes, read = 0, at = 0;
+    uint64_t lines;
+    if (n > MOST_TASKS)
+        return refused(1, 0);
+    if (length != 2 * n)
+        return refused(3, 0);
+    for (lines = 0; lines < n; lines++) {
+        size_t depth = last.depth;
+        bytes = read_line(text + read, room - read, &last);
+        if (bytes == 0)
+            return refused(15, lines);
+        read += bytes;
+        for (; depth >= last.depth; depth--)
+            out[at++] = 0;
+        out[at++] = 1;
+    }
+    memset(out + at, 0, last.depth);
+    return read < room ? refused(15, n) : accepted();
+}

@@ -8,6 +8,9 @@
  *
  * No step is undone here. An earlier form is the form of an earlier number, and what lies between the two is
  * walked on from it.
+ *
+ * No outline is a tree here. It is printed from counters, one for each level that is open, and read by writing down
+ * each line that may come next.
  */
 #ifndef INDEPENDENT_H
 #define INDEPENDENT_H
@@ -41,11 +44,19 @@ struct explanation {
     uint64_t changed[MOST_BEATS];
 };
 
+/* The most bytes of an outline's text: the k-th line has no more than the k-th of the deepest, 2k. */
+enum { MOST_TEXT = MOST_TASKS * (MOST_TASKS + 1) };
+
 /* What each call is refused for, in 01's order; the lengths are of the lent slices. */
 struct verdict judge_counts(uint64_t t, uint64_t s);
 struct verdict judge_schedule(uint64_t t, uint64_t s, const uint8_t *beats, size_t length);
 struct verdict judge_form(uint64_t t, uint64_t s, uint64_t number, size_t length);
 struct verdict judge_run(uint64_t t, uint64_t s, const uint8_t *beats, size_t length, uint64_t steps);
+struct verdict judge_outline(uint64_t t, uint64_t s, const uint8_t *beats, size_t length, size_t room);
+
+/* The same of a text that is to be an outline of n lines. Where it is accepted its beats are in out, which else holds
+   anything. */
+struct verdict read_outline(uint64_t n, const uint8_t *text, size_t room, size_t length, uint8_t *out);
 
 /* "A schedule", literally. */
 int is_schedule(uint64_t t, uint64_t s, const uint8_t *beats, size_t length);
@@ -76,6 +87,9 @@ uint64_t walk(uint64_t t, uint64_t s, uint8_t *beats, uint64_t steps);
 /* The number of a form and the form of a number, by the groups of list S. */
 uint64_t number_by_groups(uint64_t t, uint64_t s, const uint8_t *beats);
 void form_by_groups(uint64_t t, uint64_t s, uint64_t number, uint8_t *out);
+
+/* The text of a closed schedule's outline, into as much room as any has; answers its bytes. */
+size_t write_outline(const uint8_t *beats, size_t length, uint8_t *out);
 
 /* The form from which as many steps lead to this one, by the two. */
 void form_before(uint64_t t, uint64_t s, const uint8_t *beats, uint64_t steps, uint8_t *out);

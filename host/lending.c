@@ -1,6 +1,6 @@
 /*
- * What lending.h declares. Three pages are mapped twice, the second time for reading only; of the three only
- * the one in the middle can be touched.
+ * What lending.h declares. For each kind of slice three pages are mapped twice, the second time for reading only; of
+ * the three only the one in the middle can be touched.
  */
 #define _POSIX_C_SOURCE 200809L
 #include "lending.h"
@@ -14,13 +14,13 @@
 static uint8_t guard[GUARD];
 
 static size_t page;
-static uint8_t *writable;       /* the page in the middle */
-static const uint8_t *readable; /* the same page, mapped for reading only */
 
-static struct {
-    uint8_t *slice;
+static struct slice {
+    uint8_t *writable;       /* the page in the middle */
+    const uint8_t *readable; /* the same page, mapped for reading only */
+    uint8_t *bytes;
     size_t length, before, after;
-} lent;
+} slices[SLICES];
 
 /* The three pages of a file, the outer ones shut; NULL where that fails. */
 static uint8_t *map_pages(int file, int protection) {
@@ -32,22 +32,26 @@ static uint8_t *map_pages(int file, int protection) {
     return pages + page;
 }
 
-int open_lending(void) {
+static int open_pages(struct slice *lent) {
     FILE *file = tmpfile();
+    if (file == NULL || ftruncate(fileno(file), (off_t)(3 * page)) != 0)
+        return 0;
+    lent->writable = map_pages(fileno(file), PROT_READ | PROT_WRITE);
+    lent->readable = map_pages(fileno(file), PROT_READ);
+    fclose(file);
+    return lent->writable != NULL && lent->readable != NULL;
+}
+
+int open_lending(void) {
     size_t at;
     page = (size_t)sysconf(_SC_PAGESIZE);
     for (at = 0; at < GUARD; at++)
         guard[at] = (uint8_t)(0xA0 + at);
-    if (file == NULL || ftruncate(fileno(file), (off_t)(3 * page)) != 0)
-        return 0;
-    writable = map_pages(fileno(file), PROT_READ | PROT_WRITE);
-    readable = map_pages(fileno(file), PROT_READ);
-    fclose(file);
-    return writable != NULL && readable != NULL;
+    return page / 2 >= MOST_LENT + 2 * GUARD && open_pages(&slices[BEATS]) && open_pages(&slices[TEXT]);
 }
 
 /* Where the next slice goes: after one shut page, before the other, or away from both at any alignment. */
-static uint8_t *next_slice(size_t length) {
+static uint8_t *next_slice(uint8_t *writable, size_t length) {
     static uint32_t turn;
     turn = turn * 1664525 + 1013904223;
     switch (turn >> 16 & 3) {
@@ -64,26 +68,28 @@ static size_t least(size_t a, size_t b) {
     return a < b ? a : b;
 }
 
-uint8_t *lend(const uint8_t *bytes, size_t length) {
-    lent.slice = next_slice(length);
-    lent.length = length;
-    lent.before = least(GUARD, (size_t)(lent.slice - writable));
-    lent.after = least(GUARD, (size_t)(writable + page - (lent.slice + length)));
-    memcpy(lent.slice - lent.before, guard, lent.before);
-    memcpy(lent.slice, bytes, length);
-    memcpy(lent.slice + length, guard, lent.after);
-    return lent.slice;
+uint8_t *lend(enum lent what, const uint8_t *bytes, size_t length) {
+    struct slice *lent = &slices[what];
+    lent->bytes = next_slice(lent->writable, length);
+    lent->length = length;
+    lent->before = least(GUARD, (size_t)(lent->bytes - lent->writable));
+    lent->after = least(GUARD, (size_t)(lent->writable + page - (lent->bytes + length)));
+    memcpy(lent->bytes - lent->before, guard, lent->before);
+    memcpy(lent->bytes, bytes, length);
+    memcpy(lent->bytes + length, guard, lent->after);
+    return lent->bytes;
 }
 
-const uint8_t *lend_for_reading(const uint8_t *bytes, size_t length) {
-    return readable + (lend(bytes, length) - writable);
+const uint8_t *lend_for_reading(enum lent what, const uint8_t *bytes, size_t length) {
+    return slices[what].readable + (lend(what, bytes, length) - slices[what].writable);
 }
 
-const uint8_t *lent_bytes(void) {
-    return lent.slice;
+const uint8_t *lent_bytes(enum lent what) {
+    return slices[what].bytes;
 }
 
-int guards_hold(void) {
-    return memcmp(lent.slice - lent.before, guard, lent.before) == 0 &&
-           memcmp(lent.slice + lent.length, guard, lent.after) == 0;
+int guards_hold(enum lent what) {
+    const struct slice *lent = &slices[what];
+    return memcmp(lent->bytes - lent->before, guard, lent->before) == 0 &&
+           memcmp(lent->bytes + lent->length, guard, lent->after) == 0;
 }

@@ -11,6 +11,7 @@ import tempfile
 from typing import Callable, NamedTuple
 
 import explaining
+import outlining
 import packing
 from verifying import ROOT
 
@@ -35,7 +36,8 @@ class Lister(NamedTuple):
 
 
 class Listing(NamedTuple):
-    """A list: the name of its programs, and what says the line of a record by the bytes after its length."""
+    """A list: the name of its programs, and what says the lines of a record, without their last line feed, by the bytes
+    after its length."""
 
     name: str
     says: Callable
@@ -60,7 +62,8 @@ class Listing(NamedTuple):
 
 PACKING = Listing("packing_list", packing.body_line)
 EXPLAINING = Listing("explain", explaining.body_line)
-LISTINGS = (PACKING, EXPLAINING)
+OUTLINING = Listing("outline_list", outlining.body_lines)
+LISTINGS = (PACKING, EXPLAINING, OUTLINING)
 
 
 class Difference(Exception):

@@ -7,8 +7,10 @@ explanation(t, s, beats) what the step does. form_of(t, s, n) and number_of(t, s
 the number of a form, by the groups of source 000's list and not by walking; form_from_top and number_from_top are the
 same in the earlier numbering, which records of kind 1 hold. No step is undone: run_back(t, s, beats, k) takes the form
 of an earlier number and walks on from it. tree(n, ..) and schedule_of_tree(n, ..) go by nested pairs, read from the
-beats or from the tables.
+beats or from the tables. outline(t, s, ..) and schedule_of_outline(n, ..) go by the numbers of the headings, each of
+them a tuple, and a text is bytes.
 """
+from collections import Counter
 from functools import cache
 from itertools import product
 from math import comb
@@ -354,3 +356,102 @@ def schedule_of_tree(n, tables, out):
         return (Why(3), out)
     beats = schedule_with(n, tables)
     return (Why(8), out) if beats is None else (ACCEPTED, beats)
+
+
+# The outline.
+
+
+def numbers_of(beats):
+    """The numbers of the headings of a closed schedule, each one that of its parent, the last that is open, and its
+    place among its sisters."""
+    numbers, unclosed, below = [], [()], Counter()
+    for beat in beats:
+        if beat:
+            parent = unclosed[-1]
+            below[parent] += 1
+            numbers.append((*parent, below[parent]))
+            unclosed.append(numbers[-1])
+        else:
+            unclosed.pop()
+    sure(unclosed == [()], "a heading is not closed")
+    return numbers
+
+
+def line_of(number):
+    """A number as a line shows it, without the line feed."""
+    return ".".join(map(str, number)).encode()
+
+
+def outline_text(beats):
+    """The text of the outline of a closed schedule."""
+    return b"".join(line_of(number) + b"\n" for number in numbers_of(beats))
+
+
+def closed_why(t, s, beats):
+    """What beats are refused for that are to be a closed schedule."""
+    return check(t, s, beats) or (Why(14) if t != s else ACCEPTED)
+
+
+def outline(t, s, beats, text):
+    """Why, the bytes written and the text left."""
+    why = closed_why(t, s, beats)
+    own = b"" if why else outline_text(beats)
+    why = why or (Why(12) if len(own) > len(text) else ACCEPTED)
+    return (why, 0, text) if why else (why, len(own), own + text[len(own) :])
+
+
+def may_follow(number):
+    """The numbers of which one comes after a number: the first below it, and the next sister of it or of one above."""
+    return [(*number, 1), *((*number[:k], number[k] + 1) for k in range(len(number)))]
+
+
+def leading_numbers(n, lines):
+    """The numbers of leading lines, up to n, that each come after the one before."""
+    numbers, last = [], ()
+    for line in lines[:n]:
+        found = [number for number in may_follow(last) if line_of(number) == line]
+        if not found:
+            break
+        last = found[0]
+        numbers.append(last)
+    return numbers
+
+
+def beats_of_numbers(numbers):
+    """The beats of an outline by its numbers: before a heading those are closed that are as deep, or deeper."""
+    beats, depth = [], 0
+    for number in numbers:
+        beats += [0] * (depth + 1 - len(number)) + [1]
+        depth = len(number)
+    return beats + [0] * depth
+
+
+@cache
+def beginnings(n):
+    """The leading lines, of every number, of all outlines of n lines."""
+    texts = (outline_text(beats).splitlines() for beats in closed(n).values())
+    return {tuple(lines[:k]) for lines in texts for k in range(n + 1)}
+
+
+def good_lines(n, lines):
+    """How many leading lines are those of some outline of n lines: looked up among all, and for large n by what may
+    follow."""
+    followed = len(leading_numbers(n, lines))
+    if n > 7:
+        return followed
+    found = max(k for k in range(len(lines) + 1) if tuple(lines[:k]) in beginnings(n))
+    sure(found == followed, f"of {lines} the first {found} begin an outline of {n} lines, and {followed} follow")
+    return found
+
+
+def schedule_of_outline(n, text, out):
+    """Why, and the bytes left."""
+    if n > LARGEST:
+        return (Why(1), out)
+    if len(out) != 2 * n:
+        return (Why(3), out)
+    *lines, rest = text.split(b"\n")
+    good = good_lines(n, lines)
+    if good < n or len(lines) > n or rest:
+        return (Why(15, good), out)
+    return (ACCEPTED, beats_of_numbers(leading_numbers(n, lines)))

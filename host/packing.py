@@ -73,7 +73,9 @@ def packed_form(t, s, packs):
 
 
 def body_form(body):
-    """The same of what stands after a length, all of it there."""
+    """The same of what stands after a length; None stands for a record that is cut short, or too long."""
+    if body is None:
+        return (Why(9), NOTHING)
     if len(body) < 2:
         return (Why(11), NOTHING)
     kind = int.from_bytes(body[:2], "little")
@@ -108,13 +110,13 @@ def body_at(data, at):
 def read(data):
     """What the record says that data starts with: why it is refused; t, s, number and beats; the bytes it consumes."""
     body = body_at(data, 0)
-    return (Why(9), NOTHING, 0) if body is None else (*body_form(body), 2 + len(body))
+    return (*body_form(body), 0 if body is None else 2 + len(body))
 
 
 def line_of(data, at, says=body_line):
     """The line of the record at data[at:], the bytes it consumes, and whether the list stops after this line."""
     body = body_at(data, at)
-    return (refused(Why(9)), 0, True) if body is None else (says(body), 2 + len(body), False)
+    return (says(body), 0, True) if body is None else (says(body), 2 + len(body), False)
 
 
 def lines(data, says=body_line):

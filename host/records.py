@@ -1,9 +1,11 @@
 #!/usr/bin/env python3
-"""Makes records for the packing list, the same for the same seed: host/records.py [--valid] SEED COUNT > records.
+"""Makes records for the lists, the same for the same seed: host/records.py [--valid | --closed] SEED COUNT > records.
 
 Mixed records of all kinds, about 15 in 100 of them to be refused, by every refusal that a whole record can get; with
---valid none. Every record is whole, so a list of them never stops before its end.
+--valid none. With --closed half of them are of closed schedules, which alone have an outline. Every record is whole, so
+a list of them never stops before its end.
 """
+import functools
 import random
 import sys
 
@@ -11,6 +13,7 @@ import oracle
 import packing
 
 REFUSED_SHARE = 0.15
+CLOSED_SHARE = 0.5
 TOP = 2**64 - 1
 WIDTH = oracle.forms(oracle.LARGEST, oracle.LARGEST).bit_length()  # of the largest count
 
@@ -42,7 +45,17 @@ def numbered(rng, t, s, n):
 
 def valid(rng):
     """A record that is accepted: half of them hold a number, and half the beats."""
-    t, s = counts(rng)
+    return record_of(rng, *counts(rng))
+
+
+def closed(rng):
+    """The same of a closed schedule."""
+    t = rng.randrange(oracle.LARGEST + 1)
+    return record_of(rng, t, t)
+
+
+def record_of(rng, t, s):
+    """A record of a form of these counts."""
     n = number(rng, t, s)
     return numbered(rng, t, s, n) if rng.random() < 0.5 else packing.packed(t, s, oracle.form_of(t, s, n))
 
@@ -138,15 +151,22 @@ def stream(seed, count, share=REFUSED_SHARE):
         yield to_be_refused(rng) if rng.random() < share else valid(rng)
 
 
+def stream_closed(seed, count):
+    """The same, with closed schedules among them."""
+    rng = random.Random(seed)
+    for record in stream(rng.random(), count):
+        yield closed(rng) if rng.random() < CLOSED_SHARE else record
+
+
+STREAMS = {"--valid": functools.partial(stream, share=0), "--closed": stream_closed}
+
+
 def main():
-    arguments = sys.argv[1:]
-    share = REFUSED_SHARE
-    if arguments[:1] == ["--valid"]:
-        arguments, share = arguments[1:], 0
-    if len(arguments) != 2:
+    option, seed, count = ["", "", "", *sys.argv[1:]][-3:]
+    made = STREAMS.get(option, stream)
+    if len(sys.argv) != 3 + (made is not stream):
         return __doc__.split("\n")[0]
-    seed, count = map(int, arguments)
-    for record in stream(seed, count, share):
+    for record in made(int(seed), int(count)):
         sys.stdout.buffer.write(record)
     return 0
 

@@ -35,6 +35,10 @@ const char *gv_refusal_text(uint64_t refusal) {
         return "not enough room";
     case GV_RUN_TOO_LONG:
         return "too many steps";
+    case GV_NOT_CLOSED:
+        return "the schedule is not closed";
+    case GV_NO_SUCH_OUTLINE:
+        return "no outline has this text";
     default:
         return "unknown refusal";
     }

@@ -67,6 +67,7 @@ THROUGH = {
     },
     "cases_number": {"both": pairs(8), "ends": pairs(LARGEST)},
     "cases_tree": {"trees": [*range(8)], "combinations": [1, 2]},
+    "cases_outline": {"outlines": [*range(9)], "outline_bytes": [*range(5)], "outline_rows": [*range(5)]},
     "cases_record": {"records": pairs(7), "scattered": [*range(8, LARGEST + 1)]},
 }
 # How many lines each program has of the other kinds, and those of them that the manual gives.
@@ -84,6 +85,7 @@ STATED = {
     },
     "cases_number": {"number": 38, "form": 28, "sheet": 26},
     "cases_tree": {"tree": 69, "back": 98, "damage": 12},
+    "cases_outline": {"outline": 101, "outline_read": 134, "outline_damage": 6},
     "cases_record": {"write": 290, "read": 389, "filled": 20, "changes": 11},
 }
 EXAMPLES = {
@@ -109,6 +111,22 @@ EXAMPLES = {
     ),
     "cases_number": ("form 3 2 0 5", "form 3 2 4 5", "form 3 2 5 5", "number 3 2 10110", "number 3 2 11100"),
     "cases_tree": ("tree 6 111001001100 6 6 6", "back 1 0 0 1 2"),
+    "cases_outline": (
+        "outline 3 3 110100 12",
+        "outline 3 3 110100 9",
+        "outline 0 0 - 0",
+        "outline 2 1 110 6",
+        "outline 2 1 111 0",
+        "outline_read 3 1/1.1/1.2/ 6",
+        "outline_read 3 1/1.1/1.3/ 6",
+        "outline_read 3 1/1.1/ 6",
+        "outline_read 3 1/1.1/1.2 6",
+        "outline_read 2 1/1.1/1.2/ 4",
+        "outline_read 2 1/02/ 4",
+        "outline_read 2 1// 4",
+        "outline_read 1 1/2/ 2",
+        "outline_read 0 1/ 0",
+    ),
     "cases_record": ("write 1 3 2 10110 16", "read (12)0103220000000 66", "read (12)0303210000000 66"),
 }
 SOURCES = {"counts": "Table 1 of source 000", "lists": "Table 1 of source 000", "order": "Figure 2.3 of source 001"}
@@ -384,10 +402,10 @@ def after_back(n, tables):
     return [folded(why), *tables, left]
 
 
-def tally(backs, calls):
-    """How many ways back were accepted and how many were refused 8, and the digest of some calls."""
+def tally(backs, calls, refusal=8):
+    """How many ways back were accepted and how many were refused so, and the digest of some calls."""
     refusals = [verdict[0] for verdict, *_ in backs]
-    return f"{refusals.count(0)} {refusals.count(8)} {digest(itertools.chain(*calls))}"
+    return f"{refusals.count(0)} {refusals.count(refusal)} {digest(itertools.chain(*calls))}"
 
 
 def trees(n):
@@ -426,6 +444,95 @@ def damage(text):
     whole = oracle.tables_of(oracle.tree_of(beats))
     backs = [after_back(LARGEST, tables) for tables in damaged(whole)]
     return tally(backs, backs)
+
+
+PLAIN = b"0123456789.#"  # the bytes of a text that a line shows as they are
+
+
+def text_in(shown):
+    """The bytes of a text that a line shows: / is a line feed, a number in brackets any byte, "-" no byte at all."""
+    parts = [] if shown == "-" else re.findall(r"\((\d+)\)|(.)", shown)
+    return bytes(int(code) if code else ord("\n" if plain == "/" else plain) for code, plain in parts)
+
+
+def shown_text(text):
+    return "".join("/" if b == ord("\n") else chr(b) if b in PLAIN else f"({b})" for b in text) or "-"
+
+
+def outline(t, s, text, room):
+    why, length, left = oracle.outline(int(t), int(s), beats_of(text), b"#" * int(room))
+    return f"{with_value(why, length)} {shown_text(left)}"
+
+
+def outline_read(n, text, length):
+    return with_left(*oracle.schedule_of_outline(int(n), text_in(text), [7] * int(length)))
+
+
+def after_outline(n, beats, room):
+    """The verdict of writing an outline, its length, then the bytes that were lent for it as they are after it."""
+    why, length, left = oracle.outline(n, n, beats, b"#" * room)
+    return [folded(why), [length], left]
+
+
+def after_read(n, text):
+    """The verdict of reading an outline, then the bytes that were lent to it as they are after it."""
+    why, left = oracle.schedule_of_outline(n, text, [7] * (2 * n))
+    return [folded(why), text, left]
+
+
+def outlines(n):
+    """Every closed schedule there and back, in the order of the numbers: in a byte too much, in as many, and in a byte
+    too few."""
+    n = int(n)
+    calls, backs = [], []
+    for beats in catalogue(n, n):
+        text = oracle.outline_text(beats)
+        calls += [after_outline(n, beats, len(text) + more) for more in (1, 0, -1) if len(text) + more >= 0]
+        backs.append(after_read(n, text))
+        calls.append(backs[-1])
+    sure([left for *_, left in backs] == catalogue(n, n), "the ways there and back do not undo each other")
+    return tally(backs, calls, refusal=15)
+
+
+def read_all(n, texts):
+    """What is said of reading each of some texts."""
+    backs = [after_read(n, text) for text in texts]
+    return tally(backs, backs, refusal=15)
+
+
+def texts_of(n):
+    """The texts of all outlines of n lines, in the order of the numbers of their schedules."""
+    return [oracle.outline_text(beats) for beats in catalogue(n, n)]
+
+
+def one_byte_off(text):
+    """At each place and at the end: the text up to there, without the byte there, and for each value with it for the
+    byte there and with it before that byte. The whole text is one of the first."""
+    for at in range(len(text) + 1):
+        yield text[:at]
+        yield from [text[:at] + text[at + 1 :]] * (at < len(text))
+        for value in range(256):
+            yield from [text[:at] + bytes([value]) + text[at + 1 :]] * (at < len(text) and text[at] != value)
+            yield text[:at] + bytes([value]) + text[at:]
+
+
+def outline_bytes(n):
+    return read_all(int(n), (other for text in texts_of(int(n)) for other in one_byte_off(text)))
+
+
+def outline_rows(n):
+    """Every row of up to n + 1 lines of each outline; the first line changes fastest."""
+    n = int(n)
+    rows = [row[::-1] for count in range(n + 2) for row in itertools.product(range(n), repeat=count)]
+    lines = [text.splitlines(keepends=True) for text in texts_of(n)]
+    return read_all(n, (b"".join(own[line] for line in row) for own in lines for row in rows))
+
+
+def outline_damage(text):
+    """Of a text of the most lines each part that ends early, and each byte raised by one."""
+    own = oracle.outline_text(beats_of(text))
+    pairs = ((own[:at], own[:at] + bytes([(own[at] + 1) % 256]) + own[at + 1 :]) for at in range(len(own)))
+    return read_all(LARGEST, itertools.chain(*pairs))
 
 
 def writing(kind, t, s, beats, room):
@@ -532,6 +639,12 @@ KINDS = [
     ("trees", re.compile(r"trees (\d+): (.*)"), trees),
     ("combinations", re.compile(r"combinations (\d+): (.*)"), combinations),
     ("damage", re.compile(r"damage (\S+): (.*)"), damage),
+    ("outline", re.compile(r"outline (\d+) (\d+) (\S+) (\d+): (.*)"), outline),
+    ("outline_read", re.compile(r"outline_read (\d+) (\S+) (\d+): (.*)"), outline_read),
+    ("outlines", re.compile(r"outlines (\d+): (.*)"), outlines),
+    ("outline_bytes", re.compile(r"outline_bytes (\d+): (.*)"), outline_bytes),
+    ("outline_rows", re.compile(r"outline_rows (\d+): (.*)"), outline_rows),
+    ("outline_damage", re.compile(r"outline_damage (\S+): (.*)"), outline_damage),
     ("write", re.compile(r"write (\d+) (\d+) (\d+) (\S+) (\d+): (.*)"), write),
     ("read", re.compile(r"read (\S+) (\d+): (.*)"), read),
     ("filled", re.compile(r"filled (\S+) (\d+): (.*)"), filled),

@@ -23,7 +23,7 @@ import verify_cases
 from verifying import ROOT, Wrong, contents, ended, language, parsed, sure, verdict
 
 LIMIT = 300  # seconds for a check
-LISTS = ("host/packing_list", "bin/packing_list", "host/explain", "bin/explain")  # the programs that list
+LISTS = tuple(f"{folder}/{name}" for name in ("packing_list", "explain", "outline_list") for folder in ("host", "bin"))  # the programs that list
 BUILT = ("staticlib/libghanveltri.a", "host/libghanveltri.*", *LISTS, "must-fail/*/*/.log")  # of target
 RIGHT = ".right"  # after the name of a program, as it was built
 
@@ -120,16 +120,24 @@ def exchange(one, other):
     return change
 
 
-def explains_by(old, new):
-    """A program that explains as it is worked out, with one part of the oracle for another."""
+def lists_by(script, old, new):
+    """A program that lists as a script of the host works it out, with one part of the oracle for another."""
 
     def change(path):
         host = path.parents[2] / "host"
         oracle = swapped((host / "oracle.py").read_text(), old, new)
         begin = f"#!{sys.executable} -B\nimport sys\nsys.path.insert(0, {str(host)!r})\nimport oracle\nexec({oracle!r}, vars(oracle))\n"
-        path.write_text(f"{begin}import explaining\nsys.stdout.buffer.write(explaining.output(sys.stdin.buffer.read()))\n")
+        path.write_text(f"{begin}import {script}\nsys.stdout.buffer.write({script}.output(sys.stdin.buffer.read()))\n")
 
     return change
+
+
+def explains_by(old, new):
+    return lists_by("explaining", old, new)
+
+
+def outlines_by(old, new):
+    return lists_by("outlining", old, new)
 
 
 def gone(path):
@@ -149,6 +157,7 @@ COMMANDS = {  # where it is not the host test as it stands
     "functions_agree": ("host/tests/functions_agree", "--brief"),
     "packing_list_agrees": ("host/tests/packing_list_agrees", "sample"),
     "explain_agrees": ("host/tests/explain_agrees", "examples"),
+    "outline_list_agrees": ("host/tests/outline_list_agrees", "examples"),
     "stored_outputs_right": ("host/tests/stored_outputs_right", "counts", "lists", "order", "check"),
 }
 ENDS = {"the gate": "\n2 passed, 0 failed\n"}  # what it says at last where nothing is broken
@@ -174,6 +183,7 @@ LESS = listed_through("2d")  # it loses its second line
 UNSIGNED = listed_through(r"s/ -\([0-9]\)/ \1/")  # it prints no sign
 NO_SURPLUS = listed_through("/^refused/s/ [^ ]*$//")  # it prints no third field
 NO_ONES = listed_through("/^refused 6/s/ [^ ]* [^ ]*$//")  # it prints no fourth and fifth field
+NOT_APART = listed_through("/^$/d")  # it prints no empty line
 EARLIER = "#!/bin/sh\nexec /bin/cat host/earlier/packing_list\n"  # it has the numbers of version 1.4.0
 SILENT = f'#!/bin/sh\nexec "$0{RIGHT}" "$@" 2>/dev/null\n'  # it tells no failure
 
@@ -181,16 +191,19 @@ CLAIMS, VACUITY, SHAMS, REQUIRES = "docs/CLAIMS.md", "docs/VACUITY.md", "docs/SH
 FIRST = "| claim | kind | where |\n|---|---|---|---|\n| D1a |"  # after the first id of a header
 THEOREMS, CASES, BOUNDED = "crates/number/proofs/Theorems.antt", "crates/bounded/proofs/Cases.antt", "crates/bounded/specs/Bounded.antt"
 TREE, TREES, LINES = "crates/tree/specs/Tree.antt", "crates/tree/proofs/Cases.antt", "crates/line/proofs/Cases.antt"
+HEADINGS = "crates/outline/specs/Outline.antt"
 EDIT = "accepted_has_a_place"
 SHAM, LOG = f"crates/refusal/must-fail/{EDIT}.edit", f"target/must-fail/refusal/{EDIT}/.log"
 HEADER, ARCHIVE, README = "include/ghanveltri.h", "target/host/libghanveltri.a", "README.md"
 PAGE, LIST_PAGE, EXAMPLE = "host/man/ghanveltri.3", "host/man/packing_list.1", "host/example.c"
 COMMAND, PROGRAM = "target/host/packing_list", "target/bin/packing_list"
 EXPLAIN, EXPLAIN_PROGRAM, EXPLAIN_PAGE, EXPLAINING = "target/host/explain", "target/bin/explain", "host/man/explain.1", "host/explaining.py"
+OUTLINE, OUTLINE_PROGRAM, OUTLINE_PAGE = "target/host/outline_list", "target/bin/outline_list", "host/man/outline_list.1"
 CHANGES, BEFORE = "changes(beats, own.after)", "form_of(t, s, (number_of(t, s, beats) - 1) % forms(t, s))"  # of the oracle; and the form before
+PRINTED, FROM_RIGHT = "in numbers_of(beats)", "in numbers_of([1 - beat for beat in beats[::-1]])"  # of the oracle
 LOOK, LOOKUP, STREAM = "| `lookup` | `look` |", "crates/lookup/src/lib.rt", "crates/stream/src/lib.rt"
 GROUND, WALK, ORACLE, PACKING = "crates/cases_ground/stdout", "crates/cases_walk/stdout", "host/oracle.py", "host/packing.py"
-NUMBER, RECORD = "crates/cases_number/stdout", "crates/cases_record/stdout"
+NUMBER, RECORD, OUTLINES = (f"crates/cases_{of}/stdout" for of in ("number", "record", "outline"))
 VERIFY_CASES, INDEPENDENT, STDIO = "host/verify_cases.py", "host/independent.c", "bench/packing_stdio.c"
 EARLIER_LIST, EARLIER_EXPLAIN, PLAIN = "host/earlier/packing_list", "host/earlier/explain", "bench/plain.c"
 COUNT, COUNTS = "crates/triangle/specs/Count.antt", "crates/triangle/src/table.rt"
@@ -251,10 +264,20 @@ def surplus_as_place(says):
     return Break("surplus and place exchanged", ARCHIVE, exchange("gv_check_surplus", "gv_check_place"), (says,))
 
 
+def outline_parts_exchanged(says):
+    """The refusal and the place of an outline, exchanged in the archive."""
+    return Break("an outline's refusal and place exchanged", ARCHIVE, exchange("gv_outline_refusal", "gv_outline_place"), (says,))
+
+
+def way_back_exchanged(says):
+    """The refusal and the place of the way back, exchanged in the archive."""
+    return Break("the way back and its place exchanged", ARCHIVE, exchange("gv_outline_read", "gv_outline_read_place"), (says,))
+
+
 BREAKS = {
     "claims_name_what_exists": [
         Break("a row deleted", CLAIMS, drop("| D2b |"), ("[D2b]", "has no row")),
-        Break("an open row deleted", CLAIMS, drop("| F6 |"), ("F6 has no row",)),
+        Break("an open row deleted", CLAIMS, drop("| F8 |"), ("F8 has no row",)),
         Break("an id in another case", CLAIMS, swap("| D2b |", "| d2b |"), ("d2b: no id",)),
         Break("a row without its kind", CLAIMS, swap("has number n | theorem |", "has number n |"), ("4 columns", "D2b")),
         Break("a kind that is none", CLAIMS, swap("has number n | theorem |", "has number n | theorm |"), ("D2b", "'theorm'")),
@@ -276,6 +299,7 @@ BREAKS = {
         Break("a predicate that is only premised", LINES, swap("beats-10 : Beats (1 ∷ 0 ∷ [])", "beats-10 : Beats (1 ∷ 0 ∷ []) → ℕ"), ("#Beats has no",)),
         Break("an example only in a comment", CASES, swap("\nfirst-nowhere :", "\n-- first-nowhere :"), (f"{BOUNDED}#first has no",)),
         Break("a new definition", BOUNDED, swap("abbrev pub first ", "abbrev pub third "), ("third has no example",)),
+        Break("a new one beside another", HEADINGS, swap("  pub below :", "  pub beneath :"), ("beneath has no example",)),
         Break("a new one in two lines", BOUNDED, swap("\nabbrev", "\npub Odd :\n  ℕ → Type 0\n\nabbrev"), ("Odd has no example",)),
     ],
     "heads_name_what_is_there": [
@@ -330,6 +354,7 @@ BREAKS = {
         *lines_wrong(GROUND, "off"),
         *lines_wrong(NUMBER, "number", "form", "ends"),
         *lines_wrong(RECORD, "read", "write"),
+        *lines_wrong(OUTLINES, "outline", "outline_read", "outlines", "outline_bytes", "outline_rows", "outline_damage"),
         *lines_wrong(WALK, "order_back", "round_back", "previous", "previous_changed", "run_back", "run_back_changed"),
         *lines_wrong(WALK, "explain", "explain_number", "explain_round"),
         Break("an example gone", WALK, drop("explain 3 2 11010:"), ("the manual's 'explain 3 2 11010' is missing",)),
@@ -350,6 +375,10 @@ BREAKS = {
         Break("other words of a surplus", HEADER, swap("never 0 after that", "never 1 after that"), ("nothing holds the 1", "'never 0 ")),
         Break("a place for no place", HEADER, swap("GV_NO_PLACE 18446744073709551615u", "GV_NO_PLACE 64"), ("GV_NO_PLACE of the header is 64",)),
         Break("another number of a case", HEADER, swap("4: the found 1 moves", "5: the found 1 moves"), ("nothing holds the 5", "'4: the found 1")),
+        Break("another length of the longest outline", HEADER, swap("(GV_MAX_TASKS + 1))", "GV_MAX_TASKS)"), ("OUTLINE of the header is 1024",)),
+        Break("the length of a text called otherwise", HEADER, swap("uint8_t *text, size_t room);", "uint8_t *text, size_t size);"), ("gv_outline of",)),
+        Break("fewer calls inside each other", HEADER, swap("at most 65 calls", "at most 33 calls"), ("nothing holds the 33", "'at most 65 calls")),
+        Break("less stack said", HEADER, swap("up to 8 KB", "up to 6 KB"), ("bytes of stack, and the header says 6000",)),
         Break("numbers moved the other way", HEADER, swap("(n + N - 1) % N", "(n + 1) % N"), ("(n + N - 1) % N here",)),
         Break("the archive gone", ARCHIVE, gone, ("rt staticlib ghanveltri",)),
     ],
@@ -358,6 +387,8 @@ BREAKS = {
         Break("a surplus gone from the page", PAGE, drop('.BI "int32_t gv_check_surplus('), ("gv_check_surplus is missing",)),
         Break("no surplus in the example", LIST_PAGE, swap("\nrefused 7 0 0\n", "\nrefused 7 0\n"), ("packing_list.1: the example",)),
         Break("another place in the example", EXPLAIN_PAGE, swap("\n4 2 2 1 2\n", "\n4 2 2 1 3\n"), ("explain.1: the example",)),
+        Break("no empty line in the example", OUTLINE_PAGE, swap("\n1.2\n\n", "\n1.2\n"), ("outline_list.1: the example",)),
+        Break("another longest outline", PAGE, swap('OUTLINE " (1056)"', 'OUTLINE " (1055)"'), ("GV_LONGEST_OUTLINE is 1055",)),
         Break("an option gone from a command's page", EXPLAIN_PAGE, drop(".B \\-\\-version"), ("explain.1: OPTIONS has other options",)),
         Break("another number of a refusal", PAGE, swap('GV_RUN_TOO_LONG " (13)"', 'GV_RUN_TOO_LONG " (14)"'), ("GV_RUN_TOO_LONG",)),
     ],
@@ -366,13 +397,21 @@ BREAKS = {
         Break("a surplus of another type", HEADER, swap("\nint32_t gv_check_s", "\nuint64_t gv_check_s"), ("by ctypes, gv_check_surplus(",)),
         Break("a place of another type", HEADER, swap("\nuint64_t gv_explain_m", "\nint32_t gv_explain_m"), ("by ctypes, gv_explain_moved(",)),
         off_the_other_way(ORACLE, "beats.count(1)", "t", "by ctypes, gv_check_surplus(", "by ctypes, gv_number_surplus("),
+        Break("a byte more room worked out", ORACLE, swap("len(own) > len(text)", "len(own) >= len(text)"), ("gv_outline_refusal(", "gv_outline(")),
+        Break("bytes after n lines passed over", ORACLE, swap("or len(lines) > n or rest", "or len(lines) > n"), ("by ctypes, gv_outline_read(",)),
     ],
     "functions_agree": [
         Break("two functions exchanged", ARCHIVE, exchange("gv_count_place", "gv_count_refusal"), ("gv_count_refusal",)),
         *turned("gv_{}(", "next", "next_changed", "run", "run_changed"),
         surplus_as_place("gv_check_place("),
         moved_as_found("gv_explain_found("),
+        outline_parts_exchanged("gv_outline_refusal("),
+        way_back_exchanged("gv_outline_read_place("),
         Break("numbers from 1", INDEPENDENT, swap("return forms_b", "return 1 + forms_b"), ("number otherwise",)),
+        Break("sisters numbered on", INDEPENDENT, swap("counters[last.depth--] = 0;", "last.depth--;"), ("an example's outline differs",)),
+        Break("a byte more room worked out", INDEPENDENT, swap("text) > room", "text) >= room"), ("refusal of the outline differs",)),
+        Break("a second child read first", INDEPENDENT, swap("last->depth ? 1 :", "last->depth ? 2 :"), ("an example's refusal of a text differs",)),
+        Break("bytes after n lines passed over", INDEPENDENT, swap("read < room ? refused(15, n) : ", ""), ("refusal of a text differs",)),
         Break("another case worked out", INDEPENDENT, swap("found + 1 ? 3 : 4", "found + 1 ? 4 : 3"), ("an example's case differs",)),
         Break("another 1 found", INDEPENDENT, swap("NO_PLACE : found - 1", "NO_PLACE : found"), ("an example's found 1 differs",)),
         off_the_other_way(INDEPENDENT, "(int64_t)ones", "(int64_t)t", "an example's surplus differs"),
@@ -382,6 +421,10 @@ BREAKS = {
         *turned("{} by ", "next", "run_changed"),
         surplus_as_place("check_place by "),
         moved_as_found("explain_found by "),
+        outline_parts_exchanged("outline_refusal by "),
+        way_back_exchanged("outline_read by "),
+        Break("bytes after n lines passed over", PLAIN, swap("return at == end ? n + 1 : n;", "return n + 1;"), ("outline_read by loop answers",)),
+        Break("a byte more room needed", PLAIN, swap("length) <= room ? 0 : 12", "length) < room ? 0 : 12"), ("outline_refusal by loop answers",)),
         Break("numbers from 1", PLAIN, swap("[ups][downs] - 1;", "[ups][downs];"), ("number by bytes answers",)),
     ],
     "packing_list_agrees": [
@@ -413,10 +456,22 @@ BREAKS = {
         Break("no ones asked for and found", EXPLAIN, becomes(NO_ONES), ("got b'refused 6 0 1'",), {}, ("miscounted",)),
         Break("the zeros asked for", EXPLAINING, swap("{body[2]}", "{body[3]}"), ("miscounted: worked out wrongly: line 1",), {}, ("miscounted",)),
     ],
+    "outline_list_agrees": [
+        Break("a line lost", OUTLINE, becomes(LESS), ("examples", "line 2")),
+        Break("a line lost by the Rattle program", OUTLINE_PROGRAM, becomes(LESS), ("examples", "line 2"), OPTIMIZED),
+        Break("no Rattle program", OUTLINE_PROGRAM, gone, (OUTLINE_PROGRAM, "rt check outline_list")),
+        Break("no empty lines", OUTLINE, becomes(NOT_APART), ("examples", "line 1,", "b'' is right, got b'1'")),
+        Break("sisters numbered on", OUTLINE, outlines_by("(*parent, below[parent])", "(*parent, below[parent] + len(parent))"), ("got b'1.2'",)),
+        Break("another refusal", OUTLINE_PROGRAM, outlines_by("Why(14)", "Why(12)"), ("b'refused 14 0 0' is right, got b'refused 12 0 0'",)),
+        Break("outlines from right to left", OUTLINE, outlines_by(PRINTED, FROM_RIGHT), ("is read back to",), {}, ("read_back",)),
+        Break("places from 0 worked out", ORACLE, swap("(*parent, below[parent])", "(*parent, below[parent] - 1)"), ("examples: worked out wrongly: line 2",)),
+        Break("a third field lost", OUTLINE, becomes(NO_SURPLUS), ("got b'refused 6 0'",), {}, ("miscounted",)),
+    ],
     "packing_programs_agree": [
         Break("a line lost", PROGRAM, becomes(LESS), ("packing_list",)),
         off_the_other_way(STDIO, "ones", "t", "packing_stdio does not write"),
         Break("kinds 1 and 3 exchanged", STDIO, swap("kind == 3 ?", "kind == 1 ?"), ("packing_stdio does not write",)),
+        Break("sisters numbered on", STDIO, swap("last[level--] = 0;", "level--;"), ("outline_list does not write",)),
         Break("a case explained otherwise", STDIO, swap("one - zero < zero", "one - zero <= zero"), ("explain does not write",)),
     ],
     "earlier_records_read": [
@@ -431,11 +486,14 @@ BREAKS = {
     "faults_are_told": [
         Break("a failure not told", COMMAND, becomes(SILENT), ("stop_behind_a_9 of packing_list: ", "full_device of packing_list: command ")),
         Break("a failure not told by explain", EXPLAIN, becomes(SILENT), ("full_device of packing_list: ", "full_device of explain: command ")),
+        Break("a failure not told by outline_list", OUTLINE, becomes(SILENT), ("full_device of explain: ", "full_device of outline_list: command ")),
     ],
     "installed_example_runs": [
         Break("no command", COMMAND, gone, (COMMAND,)),
         Break("no command to explain", EXPLAIN, gone, (EXPLAIN,)),
         Break("another place stored", "crates/explain/stdout", swap("4 2 2 1 2", "4 2 2 1 3"), ("the installed explain does not list",)),
+        Break("no command for outlines", OUTLINE, gone, (OUTLINE,)),
+        Break("another number stored", "crates/outline_list/stdout", swap("1.2", "1.3"), ("the installed outline_list does not list",)),
         Break("another line shown", README, swap("\n    4 steps back: 11010,", "\n    4 steps back: 11100,"), ("README.md does not show",)),
         Break("a surplus shown otherwise", EXAMPLE, swap("-surplus);", "surplus);"), ("does not print what it should",)),
     ],

@@ -12,7 +12,7 @@ from claims import CLAIMS, HEADER, tagged, where
 from verifying import ROOT, defined, ended, tables, verdict
 
 KINDS = {"definition", "contract", "theorem", "refused edit", "vector", "measured", "argued", "open"}
-OPEN = {"F6", "F8", "F9", "R23"}
+OPEN = {"F8", "F9"}
 ID = re.compile(r"[A-Z]+\d+[a-z]?")
 
 

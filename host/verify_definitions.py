@@ -17,6 +17,7 @@ from verifying import ROOT, code, contents, ended, has, places, tables, verdict
 VACUITY = "docs/VACUITY.md"
 HEADER = ("definition", "inside", "outside")
 ALSO = [("crates/refusal/proofs/Theorems.antt", "Given")]  # a predicate that stands in theorems alone
+MUTUAL = re.compile(r"^(?:unfoldable )?mutual\n((?:(?: {2}.*)?\n)*)", re.M)
 PUBLIC = re.compile(r"^(?!pub (?:mod|use) )(?:\S.* )?pub .*(?:\n +.*)*", re.M)
 TYPE = re.compile(r"pub (?:record|data) (\S+) ((?:.|\n)*?) where(?: |\n|$)(?:.|\n)*")
 FUNCTION = re.compile(r"(?:abbrev |unfoldable )?pub (?!record |data )(\S+) (:(?: .*)?(?:\n +.*)*)")
@@ -25,10 +26,15 @@ USE = re.compile(r"^use Rattle·(\w+)(?:·\w+)?((?:\.\w+)+)(?: as (\w+)|\.\{([^}
 EXAMPLE = re.compile(r"crates/\w+/(?:proofs/.*\.antt|stdout)")
 
 
+def unnested(text):
+    """A file with what is defined together, in a block `mutual`, as if it stood alone."""
+    return MUTUAL.sub(lambda block: re.sub(r"^ {2}", "", block.group(1), flags=re.M), text)
+
+
 def definitions(path):
     """The public definitions of a file, each with its signature on one line; None for one that is not understood."""
     found = {}
-    for text in PUBLIC.findall(code(path)):
+    for text in PUBLIC.findall(unnested(code(path))):
         match = TYPE.fullmatch(text) or FUNCTION.fullmatch(text)
         name, signature = match.groups() if match else (text.split("\n")[0], None)
         found[name] = signature and re.sub(r"\s+", " ", signature).strip()

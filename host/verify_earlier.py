@@ -13,11 +13,12 @@ import sys
 
 import oracle
 import packing
-from listing import EXPLAINING, LISTINGS, PACKING, Difference, missing
+from listing import EXPLAINING, PACKING, Difference, missing
 from verify_lists import MISCOUNTED, REFUSALS, Verifier, first_difference, from_file, in_pieces
 from verifying import ROOT, Wrong, ended, sure
 
 STORED = ROOT / "host/earlier"
+LISTINGS = (PACKING, EXPLAINING)  # that version 1.4.0 had
 SMALL = 5  # up to here the records have all forms
 LARGE = ((32, 32), (32, 31), (32, 16), (32, 1), (32, 0), (20, 7), (9, 9), (7, 2), (6, 6), (4, 0), (1, 1), (0, 0))
 DAMAGE = (0, 1, 2, 4, 32, 33, 255)  # no record gets kind 3 by these, which version 1.4.0 refused
@@ -128,7 +129,7 @@ def main():
     records, earlier = stored("records"), stored(PACKING.name)
     sure(records == made(), "host/earlier/records is not what verify_earlier.py --records writes")
     computed = packing.output(records, earlier_line)
-    sure(computed == earlier, f"host/earlier/packing_list: {first_difference(records, computed, earlier)}")
+    sure(computed == earlier, f"host/earlier/packing_list: {first_difference(records, earlier_line, computed, earlier)}")
     try:
         hold_lists(records, earlier)
     except Difference as difference:

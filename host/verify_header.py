@@ -3,8 +3,8 @@
 
 The header alone compiles as C99 and as C++11. Each function that crates/ghanveltri exports, and the one that
 host/refusal_text.c defines, stands in the header with the same parameters, in the same order, under the same names and
-in the same widths, and it stands in the archive; neither has another. A slice is a pointer and then its length. The
-constants have the values of the crates. Every refusal has a text of its own. Every number in a comment is computed
+in the same widths, and it stands in the archive; neither has another. A slice is a pointer and then its length, which is
+called room for a text. The constants have the values of the crates. Every refusal has a text of its own. Every number in a comment is computed
 here, or listed with what holds it, and every mark is a claim. The archive brings no other name and no memory that can
 be written, and it needs nothing but the C library's memory functions, its read, write and open, and errno.
 
@@ -34,7 +34,7 @@ LANGUAGES = {
 }
 INCLUDES = {"stddef.h", "stdint.h"}
 BORROWED = {"memcpy", "memmove", "memset", "memcmp", "bcmp", "read", "write", "open", "__errno_location"}
-LENGTH = ("size_t", "length")
+LENGTHS = {"text": "room"}  # of slices, where they are not called length
 UNKNOWN = "unknown refusal"
 
 EXPORT = re.compile(r'#\[no_mangle\]\s*pub extern "C" fn (\w+)\s*\(([^)]*)\)(?:\s*->\s*(\w+))?')
@@ -57,37 +57,50 @@ EXPLAINED = (
     "counted by `which` from 0",
 )
 
-# Calls LIST, one of LISTS, of standard input to standard output, on a stack of its own, and tells on standard error how
-# many bytes of it were written.
-LISTS = ("gv_packing_list", "gv_explain_list")
+# Makes CALL on a stack of its own, which may read standard input, write standard output and use the beats of the deepest
+# outline, its text and room for others. Tells on standard error how many bytes of the stack were written, and fails
+# where the answer is not RIGHT.
 STACK_PROGRAM = """
 #include <stdio.h>
 #include <string.h>
 #include <ucontext.h>
 
 static char stack[1 << 20];
+static uint8_t beats[GV_MAX_BEATS], out[GV_MAX_BEATS], deepest[GV_LONGEST_OUTLINE], text[GV_LONGEST_OUTLINE];
 static uint64_t answer;
 
-static void list(void) {
-    answer = LIST(0, 1);
+static void make_call(void) {
+    answer = CALL;
 }
 
 int main(void) {
     static ucontext_t back, call;
     size_t at = 0;
+    memset(beats, 1, GV_MAX_TASKS);
+    gv_outline(GV_MAX_TASKS, GV_MAX_TASKS, beats, GV_MAX_BEATS, deepest, GV_LONGEST_OUTLINE);
     memset(stack, 0x55, sizeof stack);
     getcontext(&call);
     call.uc_stack.ss_sp = stack;
     call.uc_stack.ss_size = sizeof stack;
     call.uc_link = &back;
-    makecontext(&call, list, 0);
+    makecontext(&call, make_call, 0);
     swapcontext(&back, &call);
     while (stack[at] == 0x55)
         at++;
     fprintf(stderr, "%zu", sizeof stack - at);
-    return (int)answer;
+    return answer != RIGHT;
 }
 """
+SCHEDULE = "GV_MAX_TASKS, GV_MAX_TASKS, beats, GV_MAX_BEATS, text"
+# The calls that a stack is said of, and what each answers: those of the outline, then the lists.
+OUTLINES = {
+    f"gv_outline({SCHEDULE}, GV_LONGEST_OUTLINE)": "GV_LONGEST_OUTLINE",
+    f"gv_outline({SCHEDULE}, GV_LONGEST_OUTLINE - 1)": "0",
+    f"gv_outline_refusal({SCHEDULE}, GV_LONGEST_OUTLINE - 1)": "GV_NO_ROOM",
+    "gv_outline_read(GV_MAX_TASKS, deepest, GV_LONGEST_OUTLINE, out, GV_MAX_BEATS)": "GV_ACCEPTED",
+    "gv_outline_read_place(GV_MAX_TASKS, deepest, GV_LONGEST_OUTLINE - 1, out, GV_MAX_BEATS)": "GV_MAX_TASKS - 1",
+}
+LISTS = dict.fromkeys(("gv_packing_list(0, 1)", "gv_explain_list(0, 1)", "gv_outline_list(0, 1)"), "0")
 
 
 def source(path):
@@ -108,12 +121,13 @@ def number_in(path, pattern):
 
 def in_c(name, kind):
     """The C parameters of one of Rattle's."""
+    length = ("size_t", LENGTHS.get(name, "length"))
     return {
         "u64": [("uint64_t", name)],
         "i32": [("int32_t", name)],
         "usize": [("size_t", name)],
-        "&[u8]": [("const uint8_t *", name), LENGTH],
-        "&mut [u8]": [("uint8_t *", name), LENGTH],
+        "&[u8]": [("const uint8_t *", name), length],
+        "&mut [u8]": [("uint8_t *", name), length],
     }.get(kind, [(f"no C type for {kind}", name)])
 
 
@@ -137,6 +151,14 @@ def defined_in_c():
     return prototypes(output("gcc", "-E", "-P", "-std=c99", f"-I{HEADER.parent}", IN_C), "{")
 
 
+def longest_outline(largest):
+    """The bytes that the crate has for every outline."""
+    said = re.findall(r"pub const LONGEST: usize = (.*) as usize;", source("outline/src/lib.rt"))
+    if said != ["(LARGEST * (LARGEST + 1))"]:
+        raise SystemExit(f"crates/outline/src/lib.rt: the longest outline is {said}")
+    return largest * (largest + 1)
+
+
 def constants_of_crates():
     """Every constant of the header with its value."""
     numbers = source("refusal/src/lib.rt").split("pub fn number")[1].split("pub fn place")[0]
@@ -150,6 +172,7 @@ def constants_of_crates():
         "GV_MAX_TASKS": largest,
         "GV_MAX_BEATS": 2 * largest,
         "GV_MAX_STEPS": number_in("circle/src/lib.rt", r"pub const LONGEST_RUN: u64 = ([\d_]+);"),
+        "GV_LONGEST_OUTLINE": longest_outline(largest),
         "GV_NO_PLACE": number_in("reason/specs/Explanation.antt", r"\nnoPlace = (\d+)\n"),
         "GV_VERSION": version,
         "GV_VERSION_MAJOR": version // 1000000,
@@ -248,24 +271,42 @@ def held():
         f"; {NOT_WRITTEN} when writing failed": "faults_are_told",
         f"After {NOT_READ} and {NOT_WRITTEN} errno": "faults_are_told",
         "sets it to 0 before finds 0 then": "faults_are_told",
-        f"up to {stack_said()} KB of stack": "measured, see stack_faults",
+        **outlined(),
+        **{f"up to {said} KB of stack": "measured, see stack_faults" for said in stacks_said()},
         **dict.fromkeys(EXPLAINED, "functions_agree"),
     }
 
 
-def stack_said():
-    """The stack that the comments say a list needs, in units of 1000 bytes."""
-    return next((int(found) for comment in comments() for found in STACK.findall(comment)), 0)
+def outlined():
+    """What the comments on the outline say."""
+    shown = oracle.outline_text([1, 1, 0, 1, 0, 0]).decode().split()
+    most = constants()["GV_MAX_TASKS"]
+    return {
+        "A 1 opens a heading one level down, and a 0 goes back up": "functions_agree",
+        "place among those there, from 1 on": "functions_agree",
+        f"So 110100 is printed as the lines {', '.join(shown[:-1])} and {shown[-1]}": "the oracle's outline",
+        "The schedule without beats has 0 bytes too": "functions_agree",
+        "which no 0 ends": "functions_agree",
+        f"at most {2 * most + 1} calls deep for {most} headings inside each other": "a list, and for each two calls more",
+        "after GV_NO_SUCH_OUTLINE, counted from 0, and": "functions_agree",
+    }
 
 
-def stack_used(name):
-    """The bytes of stack that a list needs for the sample."""
-    with tempfile.TemporaryDirectory() as folder, open(SAMPLE, "rb") as sample:
+def stacks_said():
+    """The stacks that the comments say, in units of 1000 bytes: that of the outline, and that of the lists."""
+    return [int(found) for comment in comments() for found in STACK.findall(comment)]
+
+
+def stack_used(call, right):
+    """The bytes of stack that a call needs; a list is given the sample and the record of the deepest outline."""
+    most = constants()["GV_MAX_TASKS"]
+    given = SAMPLE.read_bytes() + packing.packed(most, most, oracle.top(most, most))
+    with tempfile.TemporaryDirectory() as folder:
         program = pathlib.Path(folder, "program")
         text = f'#include "{HEADER}"\n{STACK_PROGRAM}'
-        command = ["gcc", f"-DLIST={name}", "-x", "c", "-", "-x", "none", ARCHIVE, "-o", program]
+        command = ["gcc", f"-DCALL={call}", f"-DRIGHT={right}", "-x", "c", "-", "-x", "none", ARCHIVE, "-o", program]
         subprocess.run(command, input=text, text=True, check=True)
-        done = subprocess.run([program], stdin=sample, stdout=subprocess.DEVNULL, stderr=subprocess.PIPE, check=True)
+        done = subprocess.run([program], input=given, stdout=subprocess.DEVNULL, stderr=subprocess.PIPE, check=True)
     return int(done.stderr)
 
 
@@ -309,11 +350,14 @@ def number_faults():
 
 
 def stack_faults():
-    """The stack that is said is enough for each list, and at most a quarter more than what the larger one needs."""
-    said, used = 1000 * stack_said(), {name: stack_used(name) for name in LISTS}
-    for name, needed in used.items():
-        if not needed <= said <= max(used.values()) * 5 / 4:
-            yield f"{name} needs {needed} bytes of stack, and the header says {said}"
+    """The stack that is said is enough for each call that it is said of, and at most a quarter more than the most."""
+    if len(stacks_said()) != 2:
+        yield f"the header says {len(stacks_said())} stacks, and not that of the outline and that of the lists"
+    for said, calls in zip(stacks_said(), (OUTLINES, LISTS)):
+        used = {call: stack_used(call, right) for call, right in calls.items()}
+        for call, needed in used.items():
+            if not needed <= 1000 * said <= max(used.values()) * 5 / 4:
+                yield f"{call} needs {needed} bytes of stack, and the header says {1000 * said}"
 
 
 def mark_faults():

@@ -20,18 +20,19 @@ import sys
 import tempfile
 import termios
 import time
-from typing import NamedTuple
+from typing import Callable, NamedTuple
 
 import explained
 import oracle
+import outlined
 import packing
 import records
-from listing import EXPLAINING, LIMIT, LISTINGS, PACKING, Difference, missing
+from listing import EXPLAINING, LIMIT, LISTINGS, OUTLINING, PACKING, Difference, missing
 
 MIXED = 100_000
 BLOCKS = (4096, 65536)
 PIECES = (1, 7, 4095, 2, 65535, 13, 4096, 3, 1021)
-REFUSALS = {1, 2, 5, 6, 7, 9, 10, 11}  # those that a record can get
+REFUSALS = frozenset({1, 2, 5, 6, 7, 9, 10, 11})  # those that a record can get
 
 # The input as the manual gives it.
 SAMPLE = [
@@ -73,14 +74,25 @@ MISCOUNTED = [
 
 class Known(NamedTuple):
     """What is known of a list without working it out: the list of the sample, the line of 11010, the line of a 6, and
-    an accepted record with the longest line; and the parts that it alone has."""
+    an accepted record with the longest line. Then records with short lines: that of the first is longer than the record,
+    so that a block of output is full before one of input is used up, and lines of two of them leave every rest when
+    their length is divided by its length. And what makes the mixed records, the refusals that a record can get, and the
+    parts that this list alone has."""
 
     sample: bytes
     alike: bytes
     miscounted: str
     longest: bytes
+    short: tuple
+    stream: Callable = records.stream
+    refusals: frozenset = REFUSALS
     parts: tuple = ()
 
+
+UNKNOWN = packing.framed(b"\4\0")
+SHORT = (*(packing.packed(t, s, oracle.top(t, s)) for t, s in ((0, 0), (2, 1), (9, 2), (10, 1))), UNKNOWN)  # the first has a line of 8 bytes
+SHORT_OUTLINES = "", "10", "1010", "1100", "101100", "110100", "111000"  # one byte, three, up to thirteen with the empty line
+SHORT_CLOSED = tuple(packing.packed(len(form) // 2, len(form) // 2, [*map(int, form)]) for form in SHORT_OUTLINES)
 
 KNOWN = {
     PACKING: Known(
@@ -88,13 +100,25 @@ KNOWN = {
         b"3 2 1 11010\n",
         "refused 6 0 {surplus}\n",
         packing.numbered(MOST, MOST, FULL - 1),
+        SHORT,
     ),
     EXPLAINING: Known(
         b"3 3 4 1 2 3 4\n4 2 2 1 2\nrefused 7 0 0\n1 - - -\n",
         b"3 3 4 1 2 3 4\n",
         "refused 6 0 {surplus} {asked} {found}\n",
         packing.packed(MOST, MOST - 1, [1] * (MOST - 1) + [0] * (MOST - 2) + [1, 0]),
-        explained.PARTS,
+        SHORT,
+        parts=explained.PARTS,
+    ),
+    OUTLINING: Known(
+        b"refused 14 0 0\n\nrefused 14 0 0\n\nrefused 7 0 0\n\n1\n\n",
+        b"refused 14 0 0\n\n",
+        "refused 6 0 {surplus}\n\n",
+        packing.numbered(MOST, MOST, FULL - 1),
+        (packing.packed(1, 0, [1]), packing.packed(0, 1, [0]), *SHORT_CLOSED),
+        records.stream_closed,
+        REFUSALS | {14},
+        outlined.PARTS,
     ),
 }
 
@@ -158,18 +182,18 @@ def in_two(place):
     return feed
 
 
-def places(data):
-    """Where each record starts for which there is a line."""
+def places(data, says):
+    """Where the record of each line starts."""
     at, stop = 0, False
     while at < len(data) and not stop:
-        yield at
-        _, consumed, stop = packing.line_of(data, at)
+        line, consumed, stop = packing.line_of(data, at, says)
+        yield from [at] * (1 + line.count("\n"))
         at += consumed
 
 
-def first_difference(data, right, got):
+def first_difference(data, says, right, got):
     """The first line that differs, with its record."""
-    pairs = itertools.zip_longest(places(data), right.split(b"\n"), got.split(b"\n"))
+    pairs = itertools.zip_longest(places(data, says), right.split(b"\n"), got.split(b"\n"))
     for line, (at, want, said) in enumerate(pairs, 1):
         if want != said:
             start = len(data) if at is None else at
@@ -201,11 +225,11 @@ class Verifier:
         """Each of these outputs to what is worked out; right is the output where it is known otherwise."""
         computed = self.listing.output(data)
         if right is not None and computed != right:
-            raise Difference(f"{name}: worked out wrongly: {first_difference(data, right, computed)}")
+            raise Difference(f"{name}: worked out wrongly: {first_difference(data, self.listing.says, right, computed)}")
         self.refusals |= {int(line.split()[1]) for line in computed.splitlines() if line.startswith(b"refused")}
         for run, got in self.outputs(name, data, *feeds):
             if got != computed:
-                raise Difference(f"{run}: {first_difference(data, computed, got)}")
+                raise Difference(f"{run}: {first_difference(data, self.listing.says, computed, got)}")
 
 
 def sample(verifier):
@@ -390,22 +414,26 @@ def piece_ends(verifier):
         verifier.verify(f"{name} by bytes", filler(1500) + record + BEHIND, bytewise)
 
 
-# Records with short lines. That of the first has eight bytes in each list, two more than the record, so that a block of output is full
-# before one of input is used up. Lines of two of them leave every rest when their length is divided by eight.
-SHORT = [packing.packed(t, s, oracle.top(t, s)) for t, s in ((0, 0), (2, 1), (9, 2), (10, 1))]
-SHORT.append(packing.framed(b"\4\0"))
-
-
 @functools.cache
 def pairs_by_rest(listing):
-    """Two of them for each rest."""
-    return {len(listing.output(one + other)) % 8: one + other for one, other in itertools.product(SHORT, repeat=2)}
+    """Two of the records with short lines for each rest."""
+    first, *_ = short = KNOWN[listing].short
+    whole = len(listing.output(first))
+    return {len(listing.output(one + other)) % whole: one + other for one, other in itertools.product(short, repeat=2)}
 
 
 def lines_of_length(listing, length):
     """Records whose lines together have this length."""
-    last = pairs_by_rest(listing)[length % 8]
-    return SHORT[0] * ((length - len(listing.output(last))) // 8) + last
+    first = KNOWN[listing].short[0]
+    whole = len(listing.output(first))
+    last = pairs_by_rest(listing)[length % whole]
+    return first * ((length - len(listing.output(last))) // whole) + last
+
+
+def starts(longest):
+    """Where lines of a record start, before and after an end: everywhere around it, or, where they are many, at some places."""
+    every = range(-longest - 2, 3)
+    return every if longest < 200 else sorted({*every[:24], *every[::41], *every[-24:]})
 
 
 def output_ends(verifier):
@@ -413,7 +441,7 @@ def output_ends(verifier):
     output = verifier.listing.output
     for record, block in itertools.product((verifier.known.longest, FEWEST), BLOCKS):
         longest = len(output(record))
-        for start in range(-longest - 2, 3):
+        for start in starts(longest):
             before = lines_of_length(verifier.listing, block + start)
             if len(output(before)) != block + start:
                 raise Difference(f"the lines before {block}{start:+} have another length")
@@ -421,7 +449,7 @@ def output_ends(verifier):
 
 
 def mixed(verifier):
-    data = b"".join(records.stream(verifier.seed, MIXED))
+    data = b"".join(verifier.known.stream(verifier.seed, MIXED))
     print(f"{MIXED} mixed records, {len(data)} bytes, --seed {verifier.seed}", flush=True)
     verifier.verify(f"mixed, --seed {verifier.seed}", data, from_file, in_pieces)
 
@@ -470,7 +498,7 @@ def main():
             print(f"{name}: no end after {LIMIT} seconds")
             return 1
         print(f"{name}: {verifier.runs - before} runs", flush=True)
-    if not given.parts and verifier.refusals != REFUSALS:
+    if not given.parts and verifier.refusals != verifier.known.refusals:
         print(f"refusals met are {sorted(verifier.refusals)}")
         return 1
     return 0

@@ -74,7 +74,7 @@ def number_faults(text):
         if int(number) != values.get(name):
             yield f"ghanveltri.3: {name} is {number}, in the header {values.get(name)}"
     for name in values:
-        if name.startswith("GV_MAX_") and not has(text, name):
+        if name.startswith(("GV_MAX_", "GV_LONGEST_")) and not has(text, name):
             yield f"ghanveltri.3: nothing is said of {name}"
     for major in set(re.findall(r"libghanveltri\.so\.(\d+)", text)) - {str(version()[0])}:
         yield f"ghanveltri.3: libghanveltri.so.{major} is of another version"
@@ -95,12 +95,17 @@ def library_faults(functions):
         yield f"ghanveltri.3: there is no {name}"
 
 
+def example_of(page):
+    """The commands of a page's example, and what it shows that they print."""
+    (text,) = re.findall(r"^\.EX\n(.*?)^\.EE\n", (PAGES / page).read_text().split(".SH EXAMPLES\n")[1], re.M | re.S)
+    lines = [unescaped(line) for line in text.splitlines()]
+    commands = [line[2:] for line in lines if line.startswith("$ ")]
+    return commands, "".join(line + "\n" for line in lines[len(commands) :])
+
+
 def example_faults(listing, page):
     """The example of a command's page, in a folder of its own, with the command as it was built."""
-    lines = sections(page)["EXAMPLES"].split("\n")
-    commands = [line[2:] for line in lines if line.startswith("$ ")]
-    last = max((at for at, line in enumerate(lines) if line.startswith("$ ")), default=0)
-    right = "".join(line + "\n" for line in lines[last + 1 :] if line)
+    commands, right = example_of(page)
     with tempfile.TemporaryDirectory() as folder:
         path = f"{pathlib.Path(listing.command.path).parent}:{os.environ['PATH']}"
         script = ["sh", "-euc", "\n".join(commands)]

@@ -4,8 +4,8 @@
 Its name and its soname have the header's version. It exports the header's functions and nothing else, needs what the
 archive needs, runs nothing when it is loaded, and leaves no memory that can be written then; its code is not changed to
 load it, and its stack is not run. By ctypes, with the types of the header's own declarations, the functions answer and
-leave what host/oracle.py, host/packing.py and host/explaining.py work out, and a refusal leaves every lent byte, and
-those around them. The commands of ghanveltri(3), LINKING, build host/example.c and a plugin, each linked as the page
+leave what host/oracle.py and the scripts of the lists work out, and a refusal leaves every lent byte, and those around
+them. The commands of ghanveltri(3), LINKING, build host/example.c and a plugin, each linked as the page
 says.
 
 Prints each fault, and ends with status 1 if there is one.
@@ -24,6 +24,7 @@ import tempfile
 
 import explaining
 import oracle
+import outlining
 import packing
 import records
 from header import ARCHIVE, HOW, constants, declared, output, preprocessed, refusals, signatures, texts, version
@@ -38,7 +39,11 @@ SHARED = ROOT / "target/host" / FULL
 SAMPLE = ROOT / "crates/packing_list/stdin"
 MADE_BY_THE_LINKER = {".dynamic", ".got", ".got.plt"}
 AT_LOAD = ("INIT", "FINI", "INIT_ARRAY", "FINI_ARRAY", "PREINIT_ARRAY", "TEXTREL", "RPATH", "RUNPATH")
-LISTS = {"gv_packing_list": packing.output, "gv_explain_list": explaining.output}  # and what each writes
+LISTS = {  # and what each writes
+    "gv_packing_list": packing.output,
+    "gv_explain_list": explaining.output,
+    "gv_outline_list": outlining.output,
+}
 GUARD = bytes(range(0xA0, 0xB0))  # none is a beat
 TOP = 2**64 - 1
 
@@ -166,6 +171,20 @@ class Caller:
         answer = getattr(self.library, name)(t, s, *lent.slice, *more)
         self.hold(name, (t, s, beats, *more), (right, beats if left is None else left), (answer, lent.left()))
 
+    def outline(self, name, right, t, s, beats, text, left=None):
+        """A call that is lent beats and a text, which it may write."""
+        lent, lent_text = Lent(beats), Lent(text)
+        answer = getattr(self.library, name)(t, s, *lent.slice, *lent_text.slice)
+        right = (right, beats, [*(text if left is None else left)])
+        self.hold(name, (t, s, beats, text), right, (answer, lent.left(), lent_text.left()))
+
+    def outline_read(self, name, right, n, text, beats, left=None):
+        """The same of the way back, which may write the beats."""
+        lent, lent_text = Lent(beats), Lent(text)
+        answer = getattr(self.library, name)(n, *lent_text.slice, *lent.slice)
+        right = (right, beats if left is None else left, [*text])
+        self.hold(name, (n, text, beats), right, (answer, lent.left(), lent_text.left()))
+
     def form(self, right, t, s, number, beats, left=None):
         """gv_form, which has its number before the slice."""
         lent = Lent(beats)
@@ -205,6 +224,21 @@ def ask_explanation(caller, t, s, beats, right):
     caller.lend("gv_explain_moved", *(moved or [none]), t, s, beats)
     for which, place in (*enumerate([*changed, none]), (TOP, none)):
         caller.lend("gv_explain_changed_place", place, t, s, beats, which)
+
+
+def ask_outline(caller, t, s, beats, text):
+    """All that is asked of an outline, with a text lent for it."""
+    why, written, left = oracle.outline(t, s, beats, text)
+    for part, right in why._asdict().items():
+        caller.outline(f"gv_outline_{part}", right, t, s, beats, text)
+    caller.outline("gv_outline", written, t, s, beats, text, left)
+
+
+def ask_outline_read(caller, n, text, beats):
+    """The way back, with beats lent for it."""
+    why, left = oracle.schedule_of_outline(n, text, beats)
+    caller.outline_read("gv_outline_read_place", why.place, n, text, beats)
+    caller.outline_read("gv_outline_read", why.refusal, n, text, beats, left)
 
 
 def ask_run(caller, t, s, beats, steps):
@@ -257,6 +291,24 @@ def ask_refused(caller):
         ask_run(caller, 2, 1, [1, 0, 1], steps)
     for number, length in ((4, 5), (5, 5), (TOP, 5), (4, 4), (4, 6), (5, 0)):
         ask_form(caller, 3, 2, number, [7] * length)
+
+
+def ask_outlines(caller):
+    """Every closed schedule of few tasks there and back, and the deepest and the flattest of the most; with a byte less
+    room, cut, and with something after it. Then refusals, and both sides of each limit."""
+    most = constants()["GV_MAX_TASKS"]
+    forms = [oracle.form_of(n, n, number) for n in range(6) for number in range(oracle.forms(n, n))]
+    for beats in (*forms, oracle.top(most, most), [1, 0] * most):
+        n, text = len(beats) // 2, oracle.outline_text(beats)
+        for room in (len(text) - 1, len(text), len(text) + 3):
+            ask_outline(caller, n, n, beats, b"\xfe" * max(0, room))
+        for part in (text, text[:-1], text + b"1", text[:2], text.replace(b"1", b"01", 1)):
+            ask_outline_read(caller, n, part, [7] * (2 * n))
+    for t, s, beats in ((most + 1, 0, []), (2, 3, []), (2, 1, [1, 1]), (2, 2, [1, 0, 2, 0]), (2, 2, [1, 0, 0, 1]), (2, 1, [1, 1, 1])):
+        ask_outline(caller, t, s, beats, b"text")
+    ask_outline(caller, 3, 2, [1, 1, 0, 1, 0], b"")
+    for n, length in ((most + 1, 2 * most + 2), (TOP, 0), (1 << 63, 0), (3, 5), (3, 7)):
+        ask_outline_read(caller, n, b"1\n1.1\n1.2\n", [7] * length)
 
 
 def ask_miscounted(caller):
@@ -329,7 +381,7 @@ def opened_folder():
 def call_all(file):
     """The faults of all calls, and how many calls there were."""
     caller = Caller(loaded(file))
-    for ask in (ask_version, ask_circles, ask_largest, ask_refused, ask_miscounted, ask_lists):
+    for ask in (ask_version, ask_circles, ask_largest, ask_refused, ask_miscounted, ask_outlines, ask_lists):
         ask(caller)
     return caller.faults, caller.calls
 
