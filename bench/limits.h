@@ -14,7 +14,8 @@ enum {
     SIDE = LARGEST + 1,  /* rows and columns of a table by counts */
     BEATS = 2 * LARGEST, /* of the longest schedule */
     WORD = 64,           /* beats that a word holds as bits */
-    LONGEST_RUN = GV_MAX_STEPS
+    LONGEST_RUN = GV_MAX_STEPS,
+    LONGEST_TEXT = LARGEST * (LARGEST + 1) /* of an outline */
 };
 
 /* The counts of more than 36 tasks do not fit 64 bits. So no schedule has more than 72 beats: a word and eight. */

@@ -1,5 +1,6 @@
 /* The packing list in C, the plain way: fread for the parts of a record, printf for a line, a loop over the beats.
-   With the word explain after its name it writes what the explain program does: why the next form is what it is. */
+   With the word explain after its name it writes what the explain program does: why the next form is what it is. With
+   the word outline it writes what the outline_list program does: the outline of the form, and an empty line. */
 #include <stdint.h>
 #include <stdio.h>
 #include <string.h>
@@ -9,7 +10,7 @@
 enum { LONGEST = 1020 };
 
 static uint64_t forms[SIDE][SIDE];
-static int explaining;
+static int explaining, outlining;
 
 static void make_forms(void) {
     for (int t = 0; t <= LARGEST; t++)
@@ -51,6 +52,36 @@ static void explained(int t, int s, const char *beats) {
         printf("3 %d %d 1 %d %d %d\n", one, one + 1, zero, one, one + 1);
     else
         printf("4 %d %d %d %d\n", one, one, zero, one);
+}
+
+/* What a heading's number begins with is that of its parent and a dot; the length of it is kept for each level. */
+static void outlined(int t, int s, const char *beats) {
+    char number[3 * LARGEST + 1];
+    int stem[LARGEST + 1] = {0}, last[LARGEST + 1] = {0}, level = 0;
+    if (t != s) {
+        refused(14, 0, 0);
+        return;
+    }
+    for (int k = 0; k < t + s; k++) {
+        if (beats[k] == '0') {
+            last[level--] = 0;
+            continue;
+        }
+        int end = stem[level] + sprintf(number + stem[level], "%d", ++last[level]);
+        printf("%s\n", number);
+        level++;
+        number[end] = '.';
+        stem[level] = end + 1;
+    }
+}
+
+static void said(int t, int s, uint64_t n, const char *beats) {
+    if (explaining)
+        explained(t, s, beats);
+    else if (outlining)
+        outlined(t, s, beats);
+    else
+        accepted(t, s, n, beats);
 }
 
 /* The form at a place of the list, the first being 1, from the last beat on: a 1 belongs to the group of all s
@@ -107,10 +138,7 @@ static void numbered(int kind, int t, int s, const unsigned char *bytes) {
     }
     place = kind == 3 ? held + 1 : held == 0 ? forms[t][s] : held;
     form(t, s, place, beats);
-    if (explaining)
-        explained(t, s, beats);
-    else
-        accepted(t, s, place - 1, beats);
+    said(t, s, place - 1, beats);
 }
 
 static void packed(int t, int s, const unsigned char *bytes, int length) {
@@ -139,10 +167,8 @@ static void packed(int t, int s, const unsigned char *bytes, int length) {
         refused(5, bare, 0);
     else if (ones != t)
         miscounted(t, ones);
-    else if (explaining)
-        explained(t, s, beats);
     else
-        accepted(t, s, number(t, s, beats), beats);
+        said(t, s, explaining || outlining ? 0 : number(t, s, beats), beats);
 }
 
 /* What stands after a length, all of it there. */
@@ -173,18 +199,27 @@ static void line(const unsigned char *body, int length) {
         numbered(kind, t, s, body + 4);
 }
 
+/* An empty line after what was said of a record, where outlines are. */
+static void end_record(void) {
+    if (outlining)
+        printf("\n");
+}
+
 int main(int count, char **words) {
     unsigned char size[2], body[LONGEST];
     size_t got;
     explaining = count > 1 && strcmp(words[1], "explain") == 0;
+    outlining = count > 1 && strcmp(words[1], "outline") == 0;
     make_forms();
     while ((got = fread(size, 1, 2, stdin)) > 0) {
         int length = size[0] | size[1] << 8;
         if (got < 2 || length > LONGEST || fread(body, 1, length, stdin) < (size_t)length) {
             refused(9, 0, 0);
+            end_record();
             break;
         }
         line(body, length);
+        end_record();
     }
     return fflush(stdout) == 0 && !ferror(stdin) ? 0 : 1;
 }

@@ -631,3 +631,182 @@ uint64_t masks_form(uint64_t t, uint64_t s, uint64_t number, uint8_t *out, size_
     }
     return 0;
 }
+
+/* ---- the outline ---- */
+
+/* The number of the last heading: of each level, and the one below it, the last place and how many bytes stand before
+   it. */
+struct path {
+    size_t depth, places[LARGEST + 1], stems[LARGEST + 1];
+};
+
+/* Sets the arrays' first entries, and no other. */
+static void begin_path(struct path *path) {
+    path->depth = path->places[0] = path->stems[0] = 0;
+}
+
+/* Takes the heading that a path leads to: its level has one more, and there is none below it yet. */
+static void take_heading(struct path *path, size_t level, size_t bytes) {
+    path->places[level]++;
+    path->depth = level + 1;
+    path->places[path->depth] = 0;
+    path->stems[path->depth] = bytes;
+}
+
+static size_t width(size_t place) {
+    return place > 9 ? 2 : 1;
+}
+
+static uint8_t *put_place(uint8_t *at, size_t place) {
+    if (place > 9) *at++ = '0' + place / 10;
+    *at++ = '0' + place % 10;
+    return at;
+}
+
+/* The bytes of the text of a closed schedule. */
+static size_t outline_length(const uint8_t *beats, size_t length) {
+    struct path path;
+    size_t bytes = 0;
+    begin_path(&path);
+    for (size_t k = 0; k < length; k++) {
+        if (!beats[k]) {
+            path.depth--;
+            continue;
+        }
+        size_t line = path.stems[path.depth] + width(path.places[path.depth] + 1) + 1;
+        take_heading(&path, path.depth, line);
+        bytes += line;
+    }
+    return bytes;
+}
+
+/* Each line is its parent's, with a dot for the line feed, a place and a line feed. */
+static size_t outline_write(const uint8_t *beats, size_t length, uint8_t *text) {
+    struct path path;
+    const uint8_t *parents[LARGEST + 1];
+    uint8_t *line = text;
+    begin_path(&path);
+    for (size_t k = 0; k < length; k++) {
+        if (!beats[k]) {
+            path.depth--;
+            continue;
+        }
+        size_t stem = path.stems[path.depth];
+        if (stem) {
+            memcpy(line, parents[path.depth], stem - 1);
+            line[stem - 1] = '.';
+        }
+        uint8_t *end = put_place(line + stem, path.places[path.depth] + 1);
+        *end++ = '\n';
+        take_heading(&path, path.depth, end - line);
+        parents[path.depth] = line;
+        line = end;
+    }
+    return line - text;
+}
+
+static uint64_t outline_refusal(uint64_t t, uint64_t s, const uint8_t *beats, size_t length, size_t room) {
+    uint64_t refusal = bytes_check(t, s, beats, length).refusal;
+    if (refusal) return refusal;
+    if (t != s) return 14;
+    if (t * (t + 1) <= room) return 0;
+    return outline_length(beats, length) <= room ? 0 : 12;
+}
+
+uint64_t loop_outline_refusal(uint64_t t, uint64_t s, const uint8_t *beats, size_t length, const uint8_t *text,
+                              size_t room) {
+    (void)text;
+    return outline_refusal(t, s, beats, length, room);
+}
+
+uint64_t loop_outline_place(uint64_t t, uint64_t s, const uint8_t *beats, size_t length, const uint8_t *text,
+                            size_t room) {
+    (void)text;
+    (void)room;
+    return bytes_check_place(t, s, beats, length);
+}
+
+int32_t loop_outline_surplus(uint64_t t, uint64_t s, const uint8_t *beats, size_t length, const uint8_t *text,
+                             size_t room) {
+    (void)text;
+    (void)room;
+    return bytes_check_surplus(t, s, beats, length);
+}
+
+uint64_t loop_outline(uint64_t t, uint64_t s, const uint8_t *beats, size_t length, uint8_t *text, size_t room) {
+    if (outline_refusal(t, s, beats, length, room)) return 0;
+    return outline_write(beats, length, text);
+}
+
+/* ---- the way back ---- */
+
+/* How many bytes two parts of a text have in common, up to so many of the first. */
+static size_t in_common(const uint8_t *one, size_t most, const uint8_t *other, const uint8_t *end) {
+    size_t same = 0;
+    while (same < most && other + same < end && one[same] == other[same])
+        same++;
+    return same;
+}
+
+/* Where the line ends that has this place behind its stem, or NULL where another does. */
+static const uint8_t *line_end(const uint8_t *at, const uint8_t *end, size_t place) {
+    if (place > 9) {
+        if (at == end || *at != '0' + place / 10) return NULL;
+        at++;
+    }
+    return end - at >= 2 && at[0] == '0' + place % 10 && at[1] == '\n' ? at + 2 : NULL;
+}
+
+/* Takes a line, after the last one of so many bytes, into the path, and answers where it ends, or NULL. It is below the
+   last one, where it begins with all of it and a dot. Else its level is the deepest whose place begins within what the
+   two have in common: a next sister's place differs from the last one's before the dot that follows. */
+static const uint8_t *next_line(struct path *path, const uint8_t *last, size_t bytes, const uint8_t *at,
+                                const uint8_t *end) {
+    size_t same = in_common(last, bytes, at, end), level = path->depth;
+    if (level > 0 && (same < bytes || at + same == end || at[same] != '.'))
+        while (path->stems[--level] > same)
+            ;
+    const uint8_t *past = line_end(at + path->stems[level], end, path->places[level] + 1);
+    if (past) take_heading(path, level, past - at);
+    return past;
+}
+
+/* Reads a text into the beats of n lines, and answers how many of its lines are good; one more where all are, and
+   nothing follows. */
+static uint64_t outline_read(uint64_t n, const uint8_t *text, size_t room, uint8_t *out) {
+    struct path path;
+    const uint8_t *last = text, *at = text, *end = text + room;
+    begin_path(&path);
+    for (uint64_t line = 0; line < n; line++) {
+        size_t depth = path.depth;
+        const uint8_t *past = next_line(&path, last, at > last ? at - last - 1 : 0, at, end);
+        if (!past) return line;
+        for (; depth >= path.depth; depth--)
+            *out++ = 0;
+        *out++ = 1;
+        last = at;
+        at = past;
+    }
+    memset(out, 0, path.depth);
+    return at == end ? n + 1 : n;
+}
+
+static struct verdict read_verdict(uint64_t n, const uint8_t *text, size_t room, size_t length, uint8_t *own) {
+    if (n > LARGEST) return (struct verdict){1, 0};
+    if (length != 2 * n) return (struct verdict){3, 0};
+    uint64_t good = outline_read(n, text, room, own);
+    return good > n ? (struct verdict){0, 0} : (struct verdict){15, good};
+}
+
+uint64_t loop_outline_read(uint64_t n, const uint8_t *text, size_t room, uint8_t *out, size_t length) {
+    uint8_t own[BEATS];
+    uint64_t refusal = read_verdict(n, text, room, length, own).refusal;
+    if (!refusal) memcpy(out, own, length);
+    return refusal;
+}
+
+uint64_t loop_outline_read_place(uint64_t n, const uint8_t *text, size_t room, const uint8_t *out, size_t length) {
+    uint8_t own[BEATS];
+    (void)out;
+    return read_verdict(n, text, room, length, own).place;
+}

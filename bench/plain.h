@@ -60,4 +60,17 @@ int32_t bytes_number_surplus(uint64_t t, uint64_t s, const uint8_t *beats, size_
 uint64_t bytes_form(uint64_t t, uint64_t s, uint64_t number, uint8_t *out, size_t length);
 uint64_t masks_form(uint64_t t, uint64_t s, uint64_t number, uint8_t *out, size_t length);
 
+/* loop: no function calls itself. Printing keeps the place and the parent of each level; where there is less room than
+   any outline of that size has need of, the lines are measured first. Reading compares a line with the one before it.
+   They begin with the check by bytes, or with the sizes. */
+uint64_t loop_outline_refusal(uint64_t t, uint64_t s, const uint8_t *beats, size_t length, const uint8_t *text,
+                              size_t room);
+uint64_t loop_outline_place(uint64_t t, uint64_t s, const uint8_t *beats, size_t length, const uint8_t *text,
+                            size_t room);
+int32_t loop_outline_surplus(uint64_t t, uint64_t s, const uint8_t *beats, size_t length, const uint8_t *text,
+                             size_t room);
+uint64_t loop_outline(uint64_t t, uint64_t s, const uint8_t *beats, size_t length, uint8_t *text, size_t room);
+uint64_t loop_outline_read(uint64_t n, const uint8_t *text, size_t room, uint8_t *out, size_t length);
+uint64_t loop_outline_read_place(uint64_t n, const uint8_t *text, size_t room, const uint8_t *out, size_t length);
+
 #endif
