@@ -2,6 +2,8 @@
 // and the examples of the manual, "The number", "Onto the sheet" and "Easy to get wrong". The file stdout
 // says what it must print; each line of it is worked out again by host/oracle.py, without this code. [D1e] [O3] [R14]
 // [R15] [R16] [E7b]
+#![tactic(auto)]
+
 mod asks;
 mod numbers;
 mod ways;

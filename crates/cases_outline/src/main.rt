@@ -3,6 +3,8 @@
 // little from an outline's are read; and both ways are asked on both sides of every refusal. The file stdout says what
 // it must print; each line of it is worked out again by host/oracle.py, without this code. [H4] [H6] [H7] [H8] [H10]
 // [H11] [H12] [H13] [H16]
+#![tactic(auto)]
+
 mod asks;
 mod edits;
 mod folds;

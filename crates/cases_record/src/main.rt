@@ -3,6 +3,8 @@
 // small counts and some of every larger pair in digests. Both ways are asked on both sides of every refusal. The file
 // stdout says what it must print; each line of it is worked out again by host/oracle.py and host/packing.py, without
 // this code. [D1e] [D1c] [B3] [R13] [R20] [R19] [K3] [K4]
+#![tactic(auto)]
+
 mod asks;
 mod backs;
 mod changes;

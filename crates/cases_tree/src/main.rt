@@ -3,6 +3,8 @@
 // entry changed go back, and both ways are asked on both sides of every refusal. The file stdout says what it
 // must print; each line of it is worked out again by host/oracle.py, without this code. [T2] [T3] [R18] [R17] [E9]
 // [E10]
+#![tactic(auto)]
+
 mod asks;
 mod backs;
 mod combinations;

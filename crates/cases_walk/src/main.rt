@@ -2,6 +2,8 @@
 // step", "The step back", "Why a beat moves" and "Easy to get wrong", and the fourteen words of Figure 2.3 of source
 // 001, which stand there as they are walked from t ones then s zeros. The file stdout says what it must print; each
 // line of it is worked out again by host/oracle.py, without this code. [A6] [S6] [R6] [P9] [E6] [E5] [V15] [X14]
+#![tactic(auto)]
+
 mod circles;
 mod reasons;
 mod runs;

@@ -3,6 +3,8 @@
 // specs/Answers, which says what they answer and leave by specs/Step and specs/Walk; those of the private
 // ones, and of changes, cite specs/Plan. Move, changes and may_run serve the steps back too, which are the
 // crate circle_back's.
+#![tactic(auto)]
+
 ghost use Rattle.std.specs.Prelude.{◌≡◌, ◌≤◌, length};
 ghost use Rattle.refusal.specs.Rows.{judge};
 ghost use Rattle.circle.specs.Walk.{steps, worked};
@@ -113,7 +115,7 @@ fn walk_copy(beats: &[u8], room: &mut [u8], k: u64) -> u64
     requires { Form beats.now × (length room.old ≡ length beats.now) × (k ≤ most_steps) }
     ensures { result ≡ worked k beats.now }
 {
-    bytes::copy(beats, room);
+    copying::copy(beats, room);
     walk(room, k)
 }
 

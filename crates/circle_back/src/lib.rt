@@ -3,6 +3,8 @@
 // by their shape: no circle is walked and nothing is numbered. The contracts of the public functions cite
 // specs/Answers, which says what they answer and leave by specs/Back of circle; those of the private ones cite
 // specs/Undo. [V11]
+#![tactic(auto)]
+
 ghost use Rattle.std.specs.Prelude.{◌∷◌, ◌≡◌, ◌≤◌, length};
 ghost use Rattle.circle.specs.Plan.{Form, Inside};
 ghost use Rattle.circle.specs.Walk.{changed};
@@ -103,7 +105,7 @@ fn walk_back_copy(beats: &[u8], room: &mut [u8], k: u64) -> u64
     requires { Form beats.now × (length room.old ≡ length beats.now) × (k ≤ most_steps) }
     ensures { result ≡ worked_back k beats.now }
 {
-    bytes::copy(beats, room);
+    copying::copy(beats, room);
     walk_back(room, k)
 }
 

@@ -1,5 +1,7 @@
 // Which counts are allowed, and how many forms they have: the manual, "A schedule" (sizes) and
 // "How many forms". The contracts cite specs/Counts.
+#![tactic(auto)]
+
 ghost use Rattle.std.specs.Prelude.{◌≡◌};
 ghost use Rattle.refusal.specs.Rows.{judge};
 ghost use Rattle.counts.specs.Counts.{count_rows, counting};

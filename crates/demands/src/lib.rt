@@ -2,6 +2,8 @@
 // the crates above. The definitions are in specs/, the theorems in proofs/. The functions here only hand a call on:
 // each has the words of `Gives` for its contract, so that these are proved of the functions and not only read.
 // [D1g]
+#![tactic(auto)]
+
 ghost use Rattle.std.specs.Prelude.{[], ◌∷◌};
 ghost use Rattle.refusal.specs.Answer.{verdict, value};
 ghost use Rattle.reason.specs.Answers.{numbers};

@@ -1,4 +1,6 @@
 // The list of explanations as a program of its own, thin over `program`. [X10]
+#![tactic(auto)]
+
 use lists::Which;
 
 fn main() {

@@ -1,6 +1,8 @@
 // The form of a number, alone or on a sheet: the manual, "The number" and "Onto the sheet". It is written
 // from the number and the table of counts, and not by walking the circle [M8]. The contracts of the public
 // functions cite specs/Answers. [P1]
+#![tactic(auto)]
+
 ghost use Rattle.std.specs.Prelude.{cond, ◌++◌, ◌≡◌, ◌+◌, ◌-◌, ◌≤◌, ◌<◌, length, drop};
 ghost use Rattle.form.specs.Answers.{number_rows, form_verdict, form_left, sheet_verdict, sheet_left};
 ghost use Rattle.refusal.specs.Rows.{judge};

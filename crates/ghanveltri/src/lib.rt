@@ -5,6 +5,8 @@
 // what a step or a run would change comes from calls that write nothing. Nothing is kept from call to call. The
 // contracts cite the definitions of the crates below, each by an equation; but that of the way back from an outline is
 // a relation, which one answer fits (`back_one` of its crate). [W3] [F4] [P13] [D1a] [P1]
+#![tactic(auto)]
+
 ghost use Rattle.std.specs.Prelude.{List, ◌≡◌, ℕ, ◌≤◌, get_or};
 ghost use Rattle.refusal.specs.declared.Verdict.{Verdict};
 ghost use Rattle.form.specs.Answers.{form_verdict, form_left};

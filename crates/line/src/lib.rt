@@ -1,6 +1,8 @@
 // The text of one line of the packing list: the manual, "The packing list". A line is written where
 // it is to stand, with no copy. What it says of a refusal stands in the lines of every list. The contracts cite
 // specs/Line, and specs/Written of the crate `text`. [P1]
+#![tactic(auto)]
+
 ghost use Rattle.std.specs.Prelude.{◌+◌, ◌≤◌, ◌<◌, length};
 ghost use Rattle.text.specs.Written.{Written};
 ghost use Rattle.line.specs.Line.{Beats, beat_text, accepted_line, refused_text, refused_line};
@@ -44,7 +46,7 @@ pub fn refused_text(why: Refusal, out: &mut [u8]) -> usize
     ensures written { Written 0 (refused_text why) out.old out.new result }
     ensures upper_bound { result ≤ 71 }
 {
-    let past_word = bytes::copy(b"refused ", out);
+    let past_word = copying::copy(b"refused ", out);
     let past_number = field(why.number(), out, past_word);
     let past_place = field(why.place(), out, past_number);
     signed(why.surplus(), out, past_place)

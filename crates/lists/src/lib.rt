@@ -3,6 +3,8 @@
 // differ in the lines of a record alone, which are in specs/Listed; how a stream is listed, and that what is printed is
 // the list of the whole input however it comes in pieces, is in the crate `stream`, whose specs/Pass and specs/Exchange
 // the contracts cite too. [P1]
+#![tactic(auto)]
+
 ghost use Rattle.std.specs.Prelude.{◌≡◌, ◌+◌, ◌≤◌, length};
 ghost use Rattle.refusal.specs.declared.Verdict.{Verdict};
 ghost use Rattle.triangle.specs.Count.{largest, most_beats};

@@ -1,5 +1,7 @@
 // A look-up of N(t, s) in the table of counts that a program makes once and lends on, so that it is one load. The
 // contracts cite specs/Lent. [P1]
+#![tactic(auto)]
+
 ghost use Rattle.std.specs.Prelude.{◌≡◌, ◌≤◌};
 ghost use Rattle.triangle.specs.Count.{N, largest};
 ghost use Rattle.lookup.specs.Lent.{Counts};

@@ -1,6 +1,8 @@
 // The number of a form: the manual, "The number". It works from the beats and the table of counts, and not
 // by walking the circle [M8]. The contracts of the public functions cite specs/Answers, which has those of
 // the crate `form` too; proofs/Theorems says what a number is. [P1]
+#![tactic(auto)]
+
 ghost use Rattle.std.specs.Prelude.{false, ◌≡◌, ◌+◌, ◌-◌, ◌*◌, ◌≤◌};
 ghost use Rattle.triangle.specs.Count.{N, largest, most_beats};
 ghost use Rattle.lookup.specs.Lent.{Counts};

@@ -1,6 +1,8 @@
 // The outline of a closed schedule: the manual, "The outline". The way back is the crate `outline_back`. The contracts
 // of the public functions cite specs/Answers and specs/Text; proofs/Schedules says that closed schedules and outlines
 // belong together one to one. [P1]
+#![tactic(auto)]
+
 ghost use Rattle.std.specs.Prelude.{[], ◌∷◌, ◌++◌, ◌≡◌, ℕ, ◌+◌, ◌*◌, ◌≤◌, ◌<◌, leb, length};
 ghost use Rattle.refusal.specs.Rows.{judge};
 ghost use Rattle.triangle.specs.Count.{largest};

@@ -1,5 +1,7 @@
 // The way back from the text of an outline: the manual, "The outline". The contract of the public functions cites
 // specs/Back; proofs/Theorems says that this way and that of the crate `outline` undo each other. [P1]
+#![tactic(auto)]
+
 ghost use Rattle.std.specs.Prelude.{List, ◌≡◌, ℕ, ◌+◌, ◌^◌, ◌≤◌, ◌<◌, length};
 ghost use Rattle.refusal.specs.declared.Verdict.{Verdict};
 ghost use Rattle.refusal.specs.Rows.{judge};
@@ -209,7 +211,7 @@ fn rebuild(n: usize, text: &[u8], room: &mut [u8], out: &mut [u8]) -> Verdict
     match verdict {
         Verdict::Refused(why) => Verdict::Refused(why),
         Verdict::Accepted => {
-            bytes::copy(room, out);
+            copying::copy(room, out);
             Verdict::Accepted
         }
     }

@@ -1,4 +1,6 @@
 // The list of outlines as a program of its own, thin over `program`. [I3]
+#![tactic(auto)]
+
 use lists::Which;
 
 fn main() {

@@ -1,4 +1,6 @@
 // The packing list as a program of its own, thin over `program`. [E4]
+#![tactic(auto)]
+
 use lists::Which;
 
 // [W2]

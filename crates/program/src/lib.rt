@@ -1,6 +1,8 @@
 // What the programs of the gate that print a list have in common: order records from standard input, the lines of each
 // to standard output. They are thin over `lists::list_all`, as the commands of the C host are (host/command.c), and
 // tell a failure in the same words; what they cannot have is an exit status. [E4] [X10]
+#![tactic(auto)]
+
 use libc::{STDERR_FILENO, STDIN_FILENO, STDOUT_FILENO};
 use lists::Which;
 

@@ -1,6 +1,8 @@
 // Order records, read: the manual, "Order record", by the layout of their kind. The contracts cite specs/Answers,
 // which says what reading answers and leaves by the definitions of `record`; proofs/Theorems says that what was
 // written is read back, and that what is read is written again byte for byte. [P1]
+#![tactic(auto)]
+
 ghost use Rattle.std.specs.Prelude.{◌≡◌, ◌≤◌, length};
 ghost use Rattle.lookup.specs.Lent.{Counts};
 ghost use Rattle.record.specs.Record.{ups};

@@ -165,7 +165,7 @@ fn spread(
     match answer {
         Answer::Refused(why) => Reading::Refused(why, 2 + long),
         Answer::Value(number) => {
-            bytes::copy(room, out);
+            copying::copy(room, out);
             Reading::Accepted(Order {
                 t,
                 s,

@@ -2,6 +2,8 @@
 // found 1 and the moved beat stand, and which places the step changes. It reads the lent beats and writes nothing.
 // The contracts cite specs/Explanation; proofs/Theorems says that the reason given is the one that holds, and that
 // whoever applies it to a schedule gets the next form. [X1] [P1]
+#![tactic(auto)]
+
 ghost use Rattle.std.specs.Prelude.{◌≡◌, get_or};
 ghost use Rattle.schedule.specs.Check.{checked};
 ghost use Rattle.circle.specs.Plan.{Form};

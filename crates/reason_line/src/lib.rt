@@ -1,6 +1,8 @@
 // The text of one line of the list of explanations: the manual, "Why a beat moves". A line is written where it is to
 // stand, with no copy. The contracts cite specs/Line, and specs/Written of the crate `text`; proofs/Theorems says that
 // the explanation can be read back from its line. [X9] [P1]
+#![tactic(auto)]
+
 ghost use Rattle.std.specs.Prelude.{[], ◌∷◌, ◌++◌, ◌≡◌, ℕ, ◌+◌, ◌^◌, ◌≤◌, ◌<◌, pos, ◌+ℤ◌, length};
 ghost use Rattle.reason.specs.Explanation.{places_of, values_of};
 ghost use Rattle.text.specs.Decimal.{decimal as Decimal·decimal};
@@ -51,18 +53,18 @@ pub fn explained(reason: Reason, out: &mut [u8]) -> usize
     ensures { Written 0 (explained_line (values_of reason)) out.old out.new result }
 {
     match reason {
-        Reason::OneForm => bytes::copy(b"1 - - -\n", out),
+        Reason::OneForm => copying::copy(b"1 - - -\n", out),
         Reason::LastMoves(at, places) => {
-            let past_found = bytes::copy(b"2 - ", out);
+            let past_found = copying::copy(b"2 - ", out);
             let past_moved = field(at, out, past_found);
             changed_text(places, out, past_moved)
         }
         Reason::NextMoves(at, next, places) => {
-            let past_case = bytes::copy(b"3 ", out);
+            let past_case = copying::copy(b"3 ", out);
             found_text(at, next, places, out, past_case)
         }
         Reason::FoundMoves(at, places) => {
-            let past_case = bytes::copy(b"4 ", out);
+            let past_case = copying::copy(b"4 ", out);
             found_text(at, at, places, out, past_case)
         }
     }

@@ -1,6 +1,8 @@
 // Order records, written: the manual, "Order record". How each kind is laid out is in layout, and what reading a
 // record answers in reading; the crate `reader` reads, by layout, little and pack. The contracts cite specs/Record,
 // which says what a record means to its reader too. [P1]
+#![tactic(auto)]
+
 ghost use Rattle.std.specs.Prelude.{◌≡◌};
 ghost use Rattle.record.specs.Record.{write_answer, write_left};
 

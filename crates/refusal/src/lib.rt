@@ -2,6 +2,8 @@
 // of answer that can be one; the third, of reading a record, is `Reading` of the crate `record`. Every function
 // of the library that can refuse answers one of the three, or to a C host its number, and passes a refusal
 // on as it got it. The contracts cite specs/Refusal and specs/Answer. [P1] [P13]
+#![tactic(auto)]
+
 ghost use Rattle.std.specs.Prelude.{◌≡◌};
 ghost use Rattle.refusal.specs.Refusal.{refusal_number, refusal_place, refusal_surplus};
 ghost use Rattle.refusal.specs.Answer as answer;

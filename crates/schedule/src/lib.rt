@@ -1,6 +1,8 @@
 // The check of a schedule: the manual, "A schedule" and "Refusal numbers". It reads the lent beats
 // and writes nothing. The contracts cite specs/Check, that of skip specs/Skip;
 // proofs/Theorems says what the verdicts mean.
+#![tactic(auto)]
+
 ghost use Rattle.std.specs.Prelude.{◌≡◌, ℕ, ◌+◌, ◌^◌, ◌≤◌, ◌<◌, pos, ◌-ℤ◌, length, take, get_or};
 ghost use Rattle.refusal.specs.declared.Verdict.{Verdict};
 ghost use Rattle.refusal.specs.Rows.{judge};

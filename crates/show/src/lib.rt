@@ -1,6 +1,8 @@
 // Prints answers for the programs cases_*, to standard output, and makes inputs for them. What a program
 // prints is held to its stored output and not proved, so these contracts say nothing; each function is
 // proved safe and ending.
+#![tactic(auto)]
+
 use refusal::{Answer, Verdict};
 use schedule::wide;
 

@@ -4,6 +4,8 @@
 // which writes the lines and reads on. What a line says is the program's affair. What the whole list of an input
 // is, and that it is the same however the input comes in pieces, is in specs/Stream, specs/Pass and
 // proofs/Theorems. The contracts cite specs/Stream and specs/Exchange. [P1]
+#![tactic(auto)]
+
 ghost use Rattle.std.specs.Prelude.{◌≡◌, cond, ◌-◌};
 ghost use Rattle.stream.specs.Stream.{front_of};
 ghost use Rattle.stream.specs.Exchange.{begun};

@@ -1,5 +1,7 @@
 // The text that any line is made of: a byte, a number and an integer in decimal, each written where it is to stand,
 // with no copy. The contracts cite specs/Decimal and specs/Written; proofs/Theorems says what a decimal is. [P1]
+#![tactic(auto)]
+
 ghost use Rattle.std.specs.Prelude.{[], ◌∷◌, ◌++◌, ◌≡◌, ◌+◌, ◌≤◌, ◌<◌, nat_abs, length};
 ghost use Rattle.text.specs.Decimal.{decimal as Decimal·decimal};
 ghost use Rattle.text.specs.Decimal.{signed as Decimal·signed};

@@ -1,5 +1,7 @@
 // The tree table of a closed schedule: the manual, "Tree table". The way back is the crate `tree_back`. The
 // contracts of the public functions cite specs/Table; proofs/Theorems says that a schedule has one tree. [P1]
+#![tactic(auto)]
+
 ghost use Rattle.std.specs.Prelude.{◌≡◌, ◌+◌, ◌≤◌, ◌<◌, length, set};
 ghost use Rattle.refusal.specs.Rows.{judge};
 ghost use Rattle.triangle.specs.Count.{largest};

@@ -1,5 +1,7 @@
 // The way back from the tree tables of a closed schedule: the manual, "Tree table". The contract of the public
 // function cites specs/Back; proofs/Theorems says that this way and that of the crate `tree` undo each other. [P1]
+#![tactic(auto)]
+
 ghost use Rattle.std.specs.Prelude.{◌≡◌, ◌+◌, ◌≤◌, length};
 ghost use Rattle.refusal.specs.declared.Verdict.{Verdict};
 ghost use Rattle.refusal.specs.Rows.{judge};
@@ -82,7 +84,7 @@ fn rebuild(left: &[u8], right: &[u8], parent: &[u8], room: &mut [u8], out: &mut 
         parent.now out.old result out.new }
 {
     if trace(left, right, parent, room) {
-        bytes::copy(room, out);
+        copying::copy(room, out);
         Verdict::Accepted
     } else {
         Verdict::Refused(Refusal::NoSuchTables)

@@ -1,6 +1,8 @@
 // The counts N(t, s) of the manual, "How many forms" (Table 1 of source 000, the Catalan triangle):
 // the table that holds them, and its look-up. A crate of its own, since its check takes long. The
 // contracts cite specs/Count. [P1]
+#![tactic(auto)]
+
 ghost use Rattle.std.specs.Prelude.{◌≡◌, ◌≤◌};
 ghost use Rattle.triangle.specs.Count.{N, largest, counted};
 ghost use Rattle.triangle.specs.Table.{table};
