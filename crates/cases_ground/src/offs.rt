@@ -3,7 +3,7 @@ use crate::tables::spell;
 use refusal::Verdict;
 
 // How many lists were refused 6, and the digest of every list's verdict.
-#[derive(Drop)]
+#[derive(Clone, Copy)]
 struct Tally {
     off: u64,
     sum: u64,

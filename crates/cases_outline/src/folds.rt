@@ -4,7 +4,7 @@ use triangle::{BEATS, LARGEST};
 
 // How many calls of the way back were accepted and how many were refused 15, and the digest of every call's verdict
 // and of the bytes that were lent to it, as they are after it.
-#[derive(Drop)]
+#[derive(Clone, Copy)]
 pub struct Tally {
     pub accepted: u64,
     pub refused: u64,

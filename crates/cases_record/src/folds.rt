@@ -6,7 +6,7 @@ use refusal::Answer;
 
 // How many calls were as wished, and the digest of every call's answer and of all bytes that were lent to it
 // to be filled, as they are after it.
-#[derive(Drop)]
+#[derive(Clone, Copy)]
 pub struct Tally {
     pub good: u64,
     pub sum: u64,

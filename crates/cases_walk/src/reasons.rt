@@ -153,7 +153,7 @@ pub fn largest() {
 }
 
 // How many explanations lead to the form that the step leads to, and the digest of all of them and of these forms.
-#[derive(Drop)]
+#[derive(Clone, Copy)]
 struct Tally {
     led: u64,
     sum: u64,

@@ -21,7 +21,7 @@ pub const LONGEST_RUN: u64 = 65535;
 
 // What a step does to a schedule: nothing; a 1 stored at the leftmost 0 and a 0 at another place; or
 // these, and the 0 after the found 1 moved to the second place.
-#[derive(Drop)]
+#[derive(Clone, Copy)]
 pub enum Move {
     Stays,
     Swaps(usize, usize),

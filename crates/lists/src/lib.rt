@@ -25,7 +25,7 @@ use text::put;
 use triangle::SIDE;
 
 // What a list says of its records: their forms, why a beat of them moves, or their outlines.
-#[derive(Drop)]
+#[derive(Clone, Copy)]
 pub enum Which {
     Packing,
     Explaining,

@@ -61,7 +61,7 @@ fn fits(t: u64, ups: u64, downs: u64, beat: u64) -> bool
 }
 
 // Whether lent beats are a schedule of allowed counts, and then its number.
-#[derive(Drop)]
+#[derive(Clone, Copy)]
 struct Ranked {
     whole: bool,
     number: u64,

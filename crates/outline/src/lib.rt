@@ -20,7 +20,7 @@ use triangle::LARGEST;
 pub const LONGEST: usize = (LARGEST * (LARGEST + 1)) as usize;
 
 // How far a schedule has been read, and its text written.
-#[derive(Drop)]
+#[derive(Clone, Copy)]
 struct Reached {
     beat: usize,
     byte: usize,

@@ -13,7 +13,7 @@ ghost use Rattle.outline_back.specs.Reading.{Stood, Lined, ListRead, HeadingRead
 use refusal::{Refusal, Verdict};
 
 // How far a text has been read and its schedule written, and how many lines are still to come.
-#[derive(Drop)]
+#[derive(Clone, Copy)]
 struct Reached {
     byte: usize,
     beat: usize,

@@ -17,7 +17,7 @@ use refusal::{Refusal, Verdict};
 pub const NO_PLACE: u64 = u64::MAX;
 
 // The places that a step changes, ascending.
-#[derive(Drop)]
+#[derive(Clone, Copy)]
 pub enum Places {
     Two(u64, u64),
     Four(u64, u64, u64, u64),
@@ -46,7 +46,7 @@ impl Places {
 }
 
 // Why a beat moves to the second place, by the case of the rule. A place is counted from 0. [X2]
-#[derive(Drop)]
+#[derive(Clone, Copy)]
 pub enum Reason {
     // 1: there is only one form
     OneForm,
@@ -59,7 +59,7 @@ pub enum Reason {
 }
 
 // The answer to the question why: the reason, or why there is none.
-#[derive(Drop)]
+#[derive(Clone, Copy)]
 pub enum Explained {
     Told(Reason),
     Refused(Refusal),

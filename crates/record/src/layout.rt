@@ -4,14 +4,14 @@ ghost use Rattle.std.specs.Prelude.{◌≡◌};
 ghost use Rattle.record.specs.Layout.{layout_of, counts_at};
 
 // By which numbering a record holds a number: the catalogue's, or the one that counts from t ones then s zeros.
-#[derive(Drop)]
+#[derive(Clone, Copy)]
 pub enum Numbering {
     Catalogue,
     FromTop,
 }
 
 // What a record holds after its counts, and the byte at which the counts stand: t there, s after it.
-#[derive(Drop)]
+#[derive(Clone, Copy)]
 pub enum Layout {
     // the number of the form, by a numbering
     Numbered(usize, Numbering),

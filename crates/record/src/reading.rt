@@ -7,7 +7,7 @@ ghost use Rattle.record.specs.Parts as said;
 use refusal::{Refusal, Verdict};
 
 // What a record says: the counts and the number of its form, and how many bytes it takes.
-#[derive(Drop)]
+#[derive(Clone, Copy)]
 pub struct Order {
     pub t: u64,
     pub s: u64,
@@ -16,7 +16,7 @@ pub struct Order {
 }
 
 // The answer of reading a record: what it says; or why it is refused, and how many bytes to pass over.
-#[derive(Drop)]
+#[derive(Clone, Copy)]
 pub enum Reading {
     Accepted(Order),
     Refused(Refusal, u64),

@@ -10,7 +10,7 @@ ghost use Rattle.refusal.specs.Answer as answer;
 
 // Why a call was refused. A case that holds a number names the beat or the line at fault, counted from 0; but 6 holds
 // how many ones there are beyond those that were named, below 0 where some are missing. [R1] [Q1] [F7]
-#[derive(Drop)]
+#[derive(Clone, Copy)]
 pub enum Refusal {
     // 1: more tasks than a schedule may have
     TooManyTasks,
@@ -103,7 +103,7 @@ impl Refusal {
 }
 
 // The answer of a call that gives nothing but its consent.
-#[derive(Drop)]
+#[derive(Clone, Copy)]
 pub enum Verdict {
     Accepted,
     Refused(Refusal),
@@ -140,7 +140,7 @@ impl Verdict {
 }
 
 // The answer of a call that gives one number.
-#[derive(Drop)]
+#[derive(Clone, Copy)]
 pub enum Answer {
     Value(u64),
     Refused(Refusal),

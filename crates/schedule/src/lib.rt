@@ -48,7 +48,7 @@ pub fn skip(beats: &[u8], from: usize, beat: u8) -> usize
 }
 
 // How far a schedule was played, and how many tasks are in hand there.
-#[derive(Drop)]
+#[derive(Clone, Copy)]
 struct Played {
     at: usize,
     hand: usize,

@@ -20,7 +20,7 @@ pub use moving::exchange;
 
 // What stands at the front of the unread bytes: a record that can be listed, the start of one that waits for more
 // input, or nothing more.
-#[derive(Drop)]
+#[derive(Clone, Copy)]
 pub enum Front {
     Record,
     Short,
@@ -29,7 +29,7 @@ pub enum Front {
 
 // What a program printed of a record: the bytes of the record and those of its line, and whether the list ends
 // there.
-#[derive(Drop)]
+#[derive(Clone, Copy)]
 pub struct Printed {
     pub consumed: u64,
     pub bytes: usize,
@@ -38,7 +38,7 @@ pub struct Printed {
 
 // What a pass over the window did: the bytes that it listed, the bytes of their lines, and what it stopped at: at
 // a record where there was no room for its line.
-#[derive(Drop)]
+#[derive(Clone, Copy)]
 pub struct Pass {
     pub consumed: usize,
     pub bytes: usize,
@@ -47,7 +47,7 @@ pub struct Pass {
 
 // Where a program stands: unread bytes from `at` up to `have`, whether the input has ended after them, whether
 // to go on, and what to answer at the end.
-#[derive(Drop)]
+#[derive(Clone, Copy)]
 pub struct Stream {
     pub at: usize,
     pub have: usize,
