@@ -2,11 +2,13 @@
 #![tactic(auto)]
 
 use lists::Which;
+use std::process::ExitCode;
 
-fn main() {
+fn main(rt: HostRuntime) -> ExitCode {
     program::list_input(
+        &rt,
         Which::Explaining,
-        b"explain: cannot read standard input",
-        b"explain: cannot write standard output",
-    );
+        "explain: cannot read standard input",
+        "explain: cannot write standard output",
+    )
 }

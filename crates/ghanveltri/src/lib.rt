@@ -20,6 +20,11 @@ ghost use Rattle.reason.specs.Answers.{explained};
 ghost use Rattle.number.specs.Answers.{number_answer};
 ghost use Rattle.outline.specs.Answers.{outline_answer, outline_left};
 ghost use Rattle.outline_back.specs.Back.{Back};
+ghost use Rattle.stream.specs.declared.Pass.{Pass};
+ghost use Rattle.stream.specs.Pass.{Passes};
+ghost use Rattle.lists.specs.declared.Which as of;
+ghost use Rattle.lists.specs.Listed.{line_of, widest};
+ghost use Rattle.ghanveltri.specs.Passed.{told};
 
 use lists::Which;
 
@@ -309,30 +314,53 @@ pub extern "C" fn gv_outline_read_place(n: u64, text: &[u8], out: &[u8]) -> u64
     outline_back::readable(n, text, out).place()
 }
 
-// Lists the order records of one descriptor to another as the packing list does, to the end of the input or
-// after a 9: 0 where all was listed, 1 where reading failed, 2 where writing failed. [E18]
-#[unsafe(no_mangle)]
-// [E18]
-pub extern "C" fn gv_packing_list(from: i32, to: i32) -> u64
-    ensures { result ≤ 2 }
-{
-    lists::list_all(Which::Packing, from, to)
+// What a pass over a window did: the bytes that it listed, the bytes of their lines, and what it stopped at: 0 at a
+// record where there was no room for its lines, 1 at the start of one that waits for more input, 2 at the end.
+#[repr(C)]
+#[derive(Clone, Copy)]
+pub struct Passed {
+    pub consumed: u64,
+    pub bytes: u64,
+    pub front: u64,
 }
 
-// The same of the list that explains each record.
-#[unsafe(no_mangle)]
-// [X10]
-pub extern "C" fn gv_explain_list(from: i32, to: i32) -> u64
-    ensures { result ≤ 2 }
+// Lists the records that a window starts with, and tells what the pass did.
+fn list(which: Which, src: &[u8], ended: bool, text: &mut [u8], passed: &mut Passed)
+    ensures { (p : Pass) × Passes (line_of which) widest ended src.now text.old p text.new
+        × (passed.new ≡ told p) }
 {
-    lists::list_all(Which::Explaining, from, to)
+    let pass = lists::list_part(which, src, ended, text);
+    *passed = Passed {
+        consumed: pass.consumed as u64,
+        bytes: pass.bytes as u64,
+        front: pass.front.number(),
+    };
 }
 
-// The same of the list of outlines.
+// Lists the order records that a window starts with as the packing list does, while their lines have room. The C of
+// this library that reads and writes, host/lists.c, makes gv_packing_list of it. [E18]
 #[unsafe(no_mangle)]
-// [I3]
-pub extern "C" fn gv_outline_list(from: i32, to: i32) -> u64
-    ensures { result ≤ 2 }
+pub extern "C" fn list_packing(src: &[u8], ended: bool, text: &mut [u8], passed: &mut Passed)
+    ensures { (p : Pass) × Passes (line_of of.Which.Packing) widest ended src.now text.old p text.new
+        × (passed.new ≡ told p) }
 {
-    lists::list_all(Which::Outlining, from, to)
+    list(Which::Packing, src, ended, text, passed)
+}
+
+// The same of the list that explains each record. [X10]
+#[unsafe(no_mangle)]
+pub extern "C" fn list_explaining(src: &[u8], ended: bool, text: &mut [u8], passed: &mut Passed)
+    ensures { (p : Pass) × Passes (line_of of.Which.Explaining) widest ended src.now text.old p text.new
+        × (passed.new ≡ told p) }
+{
+    list(Which::Explaining, src, ended, text, passed)
+}
+
+// The same of the list of outlines. [I3]
+#[unsafe(no_mangle)]
+pub extern "C" fn list_outlining(src: &[u8], ended: bool, text: &mut [u8], passed: &mut Passed)
+    ensures { (p : Pass) × Passes (line_of of.Which.Outlining) widest ended src.now text.old p text.new
+        × (passed.new ≡ told p) }
+{
+    list(Which::Outlining, src, ended, text, passed)
 }

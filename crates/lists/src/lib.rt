@@ -20,6 +20,7 @@ ghost use Rattle.lists.specs.Listed.{Buffers, Turned};
 
 use record::Reading;
 use refusal::Refusal;
+use std::io::{Read, Write};
 use stream::{Front, Pass, Printed, Stream};
 use text::put;
 use triangle::SIDE;
@@ -170,11 +171,11 @@ fn list_window(
 }
 
 // Lists the records of the window, writes their lines out, and reads on where one waits for more input. [E16]
-fn turn(
+fn turn<R: Read, W: Write>(
     which: Which,
     rows: &[[u64; SIDE]],
-    from: i32,
-    to: i32,
+    from: &mut R,
+    to: &mut W,
     input: &mut [u8],
     room: &mut [u8],
     text: &mut [u8],
@@ -190,11 +191,11 @@ fn turn(
 }
 
 // Turn after turn, to the end of the list. [E12]
-fn run(
+fn run<R: Read, W: Write>(
     which: Which,
     rows: &[[u64; SIDE]],
-    from: i32,
-    to: i32,
+    from: &mut R,
+    to: &mut W,
     input: &mut [u8],
     room: &mut [u8],
     text: &mut [u8],
@@ -214,9 +215,19 @@ fn run(
     state.answer
 }
 
-// [E12] Lists the records of one descriptor to another, to the end of the input or after a 9. Answers 0 where all
-// was listed, 1 where reading failed and 2 where writing failed; errno then has the system's reason. [W2]
-pub fn list_all(which: Which, from: i32, to: i32) -> u64
+// Lists the records that a window starts with, while their lines have room, where the rows of the table and the room
+// for a record's beats are made for the call: for a host that reads and writes by itself. [E18]
+pub fn list_part(which: Which, src: &[u8], ended: bool, text: &mut [u8]) -> Pass
+    ensures { Passes (line_of which) widest ended src.now text.old result text.new }
+{
+    let mut room = [0u8; triangle::BEATS];
+    let rows = triangle::rows();
+    list_window(which, &rows, src, ended, &mut room, text)
+}
+
+// [E12] Lists the records of a reader to a writer, to the end of the input or after a 9. Answers 0 where all was
+// listed, 1 where reading failed and 2 where writing failed. [W2]
+pub fn list_all<R: Read, W: Write>(which: Which, from: &mut R, to: &mut W) -> u64
     ensures { result ≤ 2 }
 {
     let mut input = io::large_buffer();

@@ -2,11 +2,13 @@
 #![tactic(auto)]
 
 use lists::Which;
+use std::process::ExitCode;
 
-fn main() {
+fn main(rt: HostRuntime) -> ExitCode {
     program::list_input(
+        &rt,
         Which::Outlining,
-        b"outline_list: cannot read standard input",
-        b"outline_list: cannot write standard output",
-    );
+        "outline_list: cannot read standard input",
+        "outline_list: cannot write standard output",
+    )
 }

@@ -2,12 +2,14 @@
 #![tactic(auto)]
 
 use lists::Which;
+use std::process::ExitCode;
 
 // [W2]
-fn main() {
+fn main(rt: HostRuntime) -> ExitCode {
     program::list_input(
+        &rt,
         Which::Packing,
-        b"packing_list: cannot read standard input",
-        b"packing_list: cannot write standard output",
-    );
+        "packing_list: cannot read standard input",
+        "packing_list: cannot write standard output",
+    )
 }

@@ -10,6 +10,7 @@
 --     settled          the record is judged the same whatever follows: it is whole, or its length is above the longest
 --     front_of          what stands at the front of the unread bytes: a record that can be listed, one that waits for
 --                      more input or, at the end of the input, nothing more
+--     front_number     a number for each, as a C host is told it [E18]
 --     Own              the line of a record depends on no byte after it
 use Rattle.std.specs.Prelude.{Bool, true, false, cond, ◌&&◌, ◌||◌, List, [], ◌∷◌, ◌++◌, ◌≡◌, ℕ, zero, suc, ◌+◌, eqb, leb, ltb, length, drop}
 use Rattle.refusal.specs.declared.Verdict.{Verdict}
@@ -51,6 +52,11 @@ settled src = leb 2 (length src) && (ltb longest (long src) || leb (2 + long src
 abbrev pub front_of : Bool → List ℕ → Front
 front_of ended src =
     cond ended (cond (eqb (length src) 0) Front.Over Front.Record) (cond (settled src) Front.Record Front.Short)
+
+abbrev pub front_number : Front → ℕ
+front_number Front.Record = 0
+front_number Front.Short = 1
+front_number Front.Over = 2
 
 abbrev pub Own : (List ℕ → List ℕ) → Type 0
 Own line = (src more : List ℕ) → settled src ≡ true → line (src ++ more) ≡ line src

@@ -27,6 +27,19 @@ pub enum Front {
     Over,
 }
 
+impl Front {
+    // A number for each, for a C host. [E18]
+    pub fn number(self) -> u64
+        ensures { result ≡ means.front_number self }
+    {
+        match self {
+            Front::Record => 0,
+            Front::Short => 1,
+            Front::Over => 2,
+        }
+    }
+}
+
 // What a program printed of a record: the bytes of the record and those of its line, and whether the list ends
 // there.
 #[derive(Clone, Copy)]

@@ -1,0 +1,30 @@
+-- `circle_back::walk_back` meets its contract. The loop's invariant: after `counter` steps the form reached, and the
+-- beats changed so far, which are at most four a step. The measure is what is left of the steps, and each turn
+-- takes one. Assumes nothing.
+use mathlib.Core.Path.{◌≡◌}
+use Prim.Native.Nat.{◌+◌, ◌-◌, ◌≤◌}
+use native.Mathlib.Omega.{arith}
+use borrow.Author.Rules.{rules}
+use Rattle.circle.proofs.Forms.{goes_back, Walked, walked_start, walked-turn}
+use Rattle.circle_back.proofs.walk_back.Goals as goal
+
+pub loop-init : goal.loop-init
+loop-init c = (omega arith, walked_start goes_back c.requires.0)
+
+pub overflow_add-sum : goal.overflow_add-sum
+overflow_add-sum c =
+    let turn : Walked goes_back c.args.beats.now c.step_back-sum.new.beats
+    (c.loop.counter + 1)
+    (c.loop.sum + c.step_back-sum.result) = walked-turn goes_back c.args.beats.now c.loop.beats c.step_back-sum.new.beats
+    c.loop.counter c.loop.sum c.step_back-sum.result
+    c.loop.invariant.1 c.step_back-sum.auto.beats c.step_back-sum.ensures.beats_after c.step_back-sum.ensures.value in
+    omega (arith, turn.few, c.loop.invariant.0, c.requires.1)
+
+pub loop-preserved : goal.loop-preserved
+loop-preserved c =
+    let turn : Walked goes_back c.args.beats.now c.step_back-sum.new.beats
+    (c.loop.counter + 1)
+    (c.loop.sum + c.step_back-sum.result) = walked-turn goes_back c.args.beats.now c.loop.beats c.step_back-sum.new.beats
+    c.loop.counter c.loop.sum c.step_back-sum.result
+    c.loop.invariant.1 c.step_back-sum.auto.beats c.step_back-sum.ensures.beats_after c.step_back-sum.ensures.value in
+    (search rules, turn)

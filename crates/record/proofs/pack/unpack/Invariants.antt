@@ -1,0 +1,15 @@
+-- `pack::unpack` meets its contract. The loop's invariant: the beats so far, and the bits left of the byte in hand. The
+-- measure is the beats still to write. Assumes nothing.
+use Prim.Native.Nat.{◌-◌}
+use native.Mathlib.Omega.{arith}
+use lib.ListN.{length}
+use Rattle.record.proofs.Numerals.{Bytes}
+use Rattle.record.proofs.Packing.{Unpacked, unpacked-start, unpacked-more, unpacked-all}
+use borrow.Author.Rules.{rules}
+use Rattle.record.proofs.pack.unpack.Given as goal
+
+abbrev pub invariant-loop-at : goal.invariant-loop-at
+invariant-loop-at l = Unpacked l.src (length l.initial.out) l.at l.byte l.out
+
+abbrev pub decreases-loop-at : goal.decreases-loop-at
+decreases-loop-at l = length l.initial.out - l.at
