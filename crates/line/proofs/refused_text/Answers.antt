@@ -18,7 +18,7 @@ returns c =
     let read : to_z w32 (of_z w32 c.surplus.result) ≡ c.surplus.result = to_z-of_z w32 c.surplus.result (record { sfits = c.surplus.type_inv }) in
     let past-number : (c.field-past_number.result ≤ 29) × (length c.field-past_number.new.out ≡ length c.args.out.now) = (
       omega (arith, c.field-past_number.ensures.upper_bound, c.copy-past_word.ensures.size),
-      c.field-past_number.auto.out ∙ c.copy-past_word.kept.1.0,
+      c.field-past_number.auto.out ∙ c.copy-past_word.auto.to,
     ) in
     let past-place : (c.field-past_place.result ≤ 50) × (length c.field-past_place.new.out ≡ length c.args.out.now) = (
       omega (arith, c.field-past_place.ensures.upper_bound, past-number),

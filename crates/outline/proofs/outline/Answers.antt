@@ -1,0 +1,25 @@
+-- `outline::outline` meets its contract: what is not refused has room, and is printed. Assumes nothing.
+use mathlib.Core.List.{◌++◌}
+use mathlib.Core.Path.{◌≡◌, sym, ◌∙◌, ap}
+use Prim.Native.Nat.{ℕ}
+use native.Mathlib.Nat.{zero-add}
+use native.Mathlib.Omega.{arith}
+use lib.ListN.{length, drop}
+use Rattle.refusal.specs.declared.Answer.{Answer}
+use Rattle.refusal.specs.declared.Verdict.{Verdict}
+use Rattle.refusal.specs.Answer.{answer}
+use Rattle.refusal.specs.Rows.{judge}
+use Rattle.refusal.proofs.Left.{left-refused, left-accepted}
+use Rattle.outline.specs.Text.{printed}
+use Rattle.outline.specs.Answers.{outline_rows}
+use Rattle.outline.proofs.Verdicts.{closed-schedule, room-closed}
+use borrow.Author.Rules.{rules}
+use Rattle.outline.proofs.outline.Goals as goal
+
+pub print-requires : goal.print-requires
+print-requires c =
+    let accepting : judge (outline_rows c.args.t c.args.s c.args.beats.now
+    (length c.args.text.now)) ≡ Verdict.Accepted = sym c.printable-verdict.ensures ∙ c.in-Accepted.is in
+    let args = c.args in
+    let a = room-closed args.t args.s args.beats.now (length args.text.now) (accepting) in
+    ((args.t, (closed-schedule args.t args.s args.beats.now a.0).2), a.1)

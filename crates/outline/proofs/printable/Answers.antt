@@ -1,0 +1,16 @@
+-- `outline::printable` meets its contract: the refusals of the schedule, and then 12. Assumes nothing.
+use mathlib.Core.Path.{◌≡◌, sym, ◌∙◌}
+use borrow.Author.Tests.{leb-true, leb-false}
+use Rattle.refusal.specs.declared.Verdict.{Verdict}
+use Rattle.refusal.specs.Rows.{judge}
+use Rattle.outline.specs.Answers.{closed_rows}
+use Rattle.outline.proofs.Verdicts.{closed-schedule, room-refused, room-short, room-enough}
+use borrow.Author.Rules.{rules}
+use Rattle.outline.proofs.printable.Goals as goal
+
+pub fits-requires : goal.fits-requires
+fits-requires c =
+    let closing : judge (closed_rows c.args.t c.args.s c.args.beats.now) ≡ Verdict.Accepted = sym c.closed-verdict.ensures ∙ c.in-Accepted.is in
+    let args = c.args in
+    let q = closed-schedule args.t args.s args.beats.now (closing) in
+    (args.t, q.1, q.2)

@@ -1,0 +1,23 @@
+-- `pack::unpack` meets its contract. The loop's invariant: the beats so far, and the bits left of the byte in hand. The
+-- measure is the beats still to write. Assumes nothing.
+use Prim.Native.Nat.{◌-◌}
+use native.Mathlib.Omega.{arith}
+use lib.ListN.{length}
+use Rattle.record.proofs.Numerals.{Bytes}
+use Rattle.record.proofs.Packing.{Unpacked, unpacked-start, unpacked-more, unpacked-all}
+use borrow.Author.Rules.{rules}
+use Rattle.record.proofs.pack.unpack.Goals as goal
+
+pub loop-at-init : goal.loop-at-init
+loop-at-init c = let args = c.args in unpacked-start args.src.now args.out.now
+
+pub loop-at-preserved : goal.loop-at-preserved
+loop-at-preserved c =
+    let bytes : Bytes c.args.src.now = λ i. omega (arith, c.shared_slice_known-1.given i) in
+    unpacked-more (bytes) c.loop-at.invariant c.loop-at-test.true c.current-from.result
+    c.current-from.ensures
+
+pub returns : goal.returns
+returns c =
+    let ended : Bytes c.args.src.now = λ i. omega (arith, c.shared_slice_known-1.given i) in
+    unpacked-all (ended) c.loop-at.invariant c.loop-at-test.false

@@ -1,0 +1,69 @@
+-- `writes::beaten` meets its contract: a refusal is the check's, or 12, and leaves what was lent; else head and packed
+-- beats make the record. Assumes nothing.
+use mathlib.Core.List.{List}
+use mathlib.Core.Path.{◌≡◌, ◌∙◌, sym}
+use Prim.Native.Nat.{ℕ, ◌+◌, ◌-◌, ◌≤◌, ◌<◌}
+use native.Mathlib.Omega.{arith}
+use lib.ListN.{length, take, drop, length-drop}
+use lib.Seq.{length-take-le}
+use Rattle.refusal.specs.declared.Verdict.{Verdict}
+use Rattle.schedule.specs.Schedule.{Schedule}
+use Rattle.schedule.specs.Check.{checked}
+use Rattle.schedule.proofs.Theorems.{accepted-schedule}
+use Rattle.triangle.specs.Count.{most_beats}
+use Rattle.counts.specs.Counts.{Allowed}
+use Rattle.circle.proofs.Forms.{refused-so, accepted-so}
+use Rattle.record.specs.declared.layout.Layout.{Layout}
+use Rattle.record.specs.Bytes.{bytes_for, packed}
+use Rattle.record.specs.Record.{record_in}
+use Rattle.record.proofs.Packing.{all-beats}
+use Rattle.record.proofs.Writing.{packed-size, record-made, beaten-size, write-refused, write-short, write-taken}
+use borrow.Author.Rules.{rules}
+use Rattle.record.proofs.writes.beaten.Goals as goal
+
+pub returns-then-out-past : goal.returns-then-out-past
+returns-then-out-past c =
+    let taken : checked (c.args.t) (c.args.s) (c.args.beats.now) ≡ Verdict.Accepted = sym c.check-verdict.ensures ∙ c.in-Accepted.is in
+    let size : length ((record_in (Layout.Beaten c.args.at) c.args.kind c.args.t c.args.s c.args.beats.now)) ≡ 6 + bytes_for (length (c.args.beats.now)) = beaten-size (c.args.at) c.args.kind (c.args.t) (c.args.s) (c.args.beats.now) in
+    let refused =
+    write-short (c.args.t) (c.args.s) (c.args.beats.now) ((record_in (Layout.Beaten c.args.at) c.args.kind c.args.t c.args.s c.args.beats.now)) (c.args.out.now) (taken)
+    (omega (arith, size, c.bytes_for.ensures, c.requires, c.if-out-past.true)) in
+    refused-so refused _ _ (c.args.out.now)
+
+pub pack-requires : goal.pack-requires
+pack-requires c =
+    let taken : checked (c.args.t) (c.args.s) (c.args.beats.now) ≡ Verdict.Accepted = sym c.check-verdict.ensures ∙ c.in-Accepted.is in
+    let form : Allowed (c.args.t) (c.args.s) × Schedule (c.args.t) (c.args.s) (c.args.beats.now) = accepted-schedule (c.args.t) (c.args.s) (c.args.beats.now) (taken) in
+    let few : ((c.args.t) < 256) × ((c.args.s) < 256) × (length (c.args.beats.now) ≤ most_beats) = (
+  omega (arith, form.0.0),
+  omega (arith, form.0.0, form.0.1),
+  omega (arith, form.0.0, form.0.1, form.1.size),
+) in
+    let x = c.head.new.out in
+    let from = c.args.at + 2 in
+    let n = from + c.bytes_for.result - from in
+    let kept = c.head.auto.out in
+    let room : length (take n (drop from x)) ≡ n =
+    length-take-le n (drop from x) (omega (arith, length-drop from x, kept, c.if-out-past.false)) in (
+      omega (arith, few),
+      all-beats (c.args.beats.now) form.1.beats,
+      omega (arith, room, c.bytes_for.ensures),
+    )
+
+pub returns-else-out-past : goal.returns-else-out-past
+returns-else-out-past c =
+    let taken : checked (c.args.t) (c.args.s) (c.args.beats.now) ≡ Verdict.Accepted = sym c.check-verdict.ensures ∙ c.in-Accepted.is in
+    let size : length ((record_in (Layout.Beaten c.args.at) c.args.kind c.args.t c.args.s c.args.beats.now)) ≡ 6 + bytes_for (length (c.args.beats.now)) = beaten-size (c.args.at) c.args.kind (c.args.t) (c.args.s) (c.args.beats.now) in
+    let x = c.head.new.out in
+    let from = c.args.at + 2 in
+    let bytes = c.bytes_for.result in
+    let accepted =
+    write-taken (c.args.t) (c.args.s) (c.args.beats.now) ((record_in (Layout.Beaten c.args.at) c.args.kind c.args.t c.args.s c.args.beats.now)) (c.args.out.now) (taken)
+    (omega (arith, size, c.bytes_for.ensures, c.requires, c.if-out-past.false)) in
+    let exact : bytes ≡ length (packed (c.args.beats.now)) = c.bytes_for.ensures ∙ sym (packed-size (c.args.beats.now)) in
+    accepted-so accepted (omega (arith, size, c.bytes_for.ensures, c.requires))
+    (record-made (Layout.Beaten (c.args.at)) c.args.kind (c.args.t) (c.args.s) (c.args.beats.now) (from + bytes - 2)
+    from (from + bytes - from)
+    (c.args.out.now) x c.pack.new.out c.head.ensures c.pack.ensures (omega (arith, exact))
+    (omega (arith, c.requires)) (omega (arith, exact)))
+    (c.args.out.now)

@@ -1,0 +1,58 @@
+-- `writes::numbered` meets its contract: a refusal is the check's, or 12, and leaves what was lent; else head and
+-- number make the record. Assumes nothing.
+use mathlib.Core.List.{List}
+use mathlib.Core.Path.{◌≡◌, ◌∙◌, ap, sym}
+use Prim.Native.Nat.{ℕ, ◌+◌, ◌-◌, ◌<◌}
+use native.Mathlib.Omega.{arith}
+use lib.ListN.{length, take, drop, length-drop}
+use lib.Seq.{length-take-le}
+use Rattle.refusal.specs.declared.Verdict.{Verdict}
+use Rattle.refusal.proofs.Theorems.{answer-refused, answer-value}
+use Rattle.schedule.specs.Check.{checked}
+use Rattle.schedule.proofs.Theorems.{accepted-schedule}
+use Rattle.circle.proofs.Forms.{refused-so, accepted-so}
+use Rattle.number.specs.Number.{number_of}
+use Rattle.record.specs.declared.layout.Layout.{Layout}
+use Rattle.record.specs.declared.layout.Numbering.{Numbering}
+use Rattle.record.specs.Bytes.{low_first}
+use Rattle.record.specs.Record.{record_in}
+use Rattle.record.proofs.Numerals.{length-low}
+use Rattle.record.proofs.Writing.{record-made, numbered-size, write-refused, write-short, write-taken}
+use borrow.Author.Rules.{rules}
+use Rattle.record.proofs.writes.numbered.Goals as goal
+
+pub returns-then-out-end : goal.returns-then-out-end
+returns-then-out-end c =
+    let answered : (checked (c.args.t) (c.args.s) (c.args.beats.now) ≡ Verdict.Accepted) × (c.in-Value.number ≡ number_of (c.args.t) (c.args.s) (c.args.beats.now)) = answer-value (checked (c.args.t) (c.args.s) (c.args.beats.now)) (number_of (c.args.t) (c.args.s) (c.args.beats.now))
+    (sym c.number-answer.ensures ∙ c.in-Value.is) in
+    let size : length ((record_in ((Layout.Numbered c.args.at Numbering.Catalogue)) c.args.kind c.args.t c.args.s c.args.beats.now)) ≡ 14 = numbered-size (c.args.at) c.args.kind (c.args.t) (c.args.s) (c.args.beats.now) Numbering.Catalogue in
+    let refused =
+    write-short (c.args.t) (c.args.s) (c.args.beats.now) ((record_in ((Layout.Numbered c.args.at Numbering.Catalogue)) c.args.kind c.args.t c.args.s c.args.beats.now)) (c.args.out.now) answered.0
+    (omega (arith, size, c.requires, c.if-out-end.true)) in
+    refused-so refused _ _ (c.args.out.now)
+
+pub returns-else-out-end : goal.returns-else-out-end
+returns-else-out-end c =
+    let answered : (checked (c.args.t) (c.args.s) (c.args.beats.now) ≡ Verdict.Accepted) × (c.in-Value.number ≡ number_of (c.args.t) (c.args.s) (c.args.beats.now)) = answer-value (checked (c.args.t) (c.args.s) (c.args.beats.now)) (number_of (c.args.t) (c.args.s) (c.args.beats.now))
+    (sym c.number-answer.ensures ∙ c.in-Value.is) in
+    let size : length ((record_in ((Layout.Numbered c.args.at Numbering.Catalogue)) c.args.kind c.args.t c.args.s c.args.beats.now)) ≡ 14 = numbered-size (c.args.at) c.args.kind (c.args.t) (c.args.s) (c.args.beats.now) Numbering.Catalogue in
+    let x = c.head.new.out in
+    let from = c.args.at + 2 in
+    let n = from + 8 - from in
+    let accepted =
+    write-taken (c.args.t) (c.args.s) (c.args.beats.now) ((record_in ((Layout.Numbered c.args.at Numbering.Catalogue)) c.args.kind c.args.t c.args.s c.args.beats.now)) (c.args.out.now) answered.0
+    (omega (arith, size, c.requires, c.if-out-end.false)) in
+    let long = length-low 8 (number_of (c.args.t) (c.args.s) (c.args.beats.now)) in
+    let kept = c.head.auto.out in
+    let eight : length (take n (drop from x)) ≡ 8 =
+    length-take-le n (drop from x) (omega (arith, length-drop from x, kept, c.if-out-end.false)) ∙ omega arith in
+    let body =
+    c.spell.ensures
+    ∙ ap (λ (j : ℕ). low_first j c.in-Value.number) eight
+    ∙ ap (low_first 8) answered.1 in
+    accepted-so accepted (omega (arith, size, c.requires))
+    (record-made ((Layout.Numbered c.args.at Numbering.Catalogue)) c.args.kind (c.args.t) (c.args.s) (c.args.beats.now) (from + 8 - 2) from
+    n (c.args.out.now) x
+    c.spell.new.out c.head.ensures body (omega (arith, long)) (omega (arith, c.requires))
+    (omega (arith, long)))
+    (c.args.out.now)
