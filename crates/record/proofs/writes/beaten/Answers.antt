@@ -1,7 +1,7 @@
 -- `writes::beaten` meets its contract: a refusal is the check's, or 12, and leaves what was lent; else head and packed
 -- beats make the record. Assumes nothing.
-use mathlib.Core.List.{List}
-use mathlib.Core.Path.{◌≡◌, ◌∙◌, sym}
+use mathlib.Core.List.{List, ◌++◌}
+use mathlib.Core.Path.{◌≡◌, ◌∙◌, ap, sym}
 use Prim.Native.Nat.{ℕ, ◌+◌, ◌-◌, ◌≤◌, ◌<◌}
 use native.Mathlib.Omega.{arith}
 use lib.ListN.{length, take, drop, length-drop}
@@ -12,10 +12,13 @@ use Rattle.schedule.specs.Check.{checked}
 use Rattle.schedule.proofs.Theorems.{accepted-schedule}
 use Rattle.triangle.specs.Count.{most_beats}
 use Rattle.counts.specs.Counts.{Allowed}
-use Rattle.circle.proofs.Forms.{refused-so, accepted-so}
+use Rattle.circle.proofs.Forms.{refused-so}
 use Rattle.record.specs.declared.layout.Layout.{Layout}
 use Rattle.record.specs.Bytes.{bytes_for, packed}
-use Rattle.record.specs.Record.{record_in}
+use Rattle.record.specs.Record.{record_in, known_answer, known_left, written}
+use Rattle.refusal.specs.declared.Answer.{Answer}
+use Rattle.refusal.specs.Answer.{answer}
+use Rattle.refusal.specs.declared.Refusal.TheVariants.{NoRoom}
 use Rattle.record.proofs.Packing.{all-beats}
 use Rattle.record.proofs.Writing.{packed-size, record-made, beaten-size, write-refused, write-short, write-taken}
 use borrow.Author.Rules.{rules}
@@ -28,7 +31,11 @@ returns-then-out-past c =
     let refused =
     write-short (c.args.t) (c.args.s) (c.args.beats.now) ((record_in (Layout.Beaten c.args.at) c.args.kind c.args.t c.args.s c.args.beats.now)) (c.args.out.now) (taken)
     (omega (arith, size, c.bytes_for.ensures, c.requires, c.if-out-past.true)) in
-    refused-so refused _ _ (c.args.out.now)
+    let made = record_in (Layout.Beaten c.args.at) c.args.kind c.args.t c.args.s c.args.beats.now in
+    let both : (Answer.Refused NoRoom ≡ known_answer c.args.t c.args.s c.args.beats.now made c.args.out.now)
+        × (c.args.out.now ≡ known_left c.args.t c.args.s c.args.beats.now made c.args.out.now) =
+    refused-so refused _ _ (c.args.out.now) in
+    record { value = both.0; out_after = both.1 }
 
 pub pack-requires : goal.pack-requires
 pack-requires c =
@@ -61,9 +68,14 @@ returns-else-out-past c =
     write-taken (c.args.t) (c.args.s) (c.args.beats.now) ((record_in (Layout.Beaten c.args.at) c.args.kind c.args.t c.args.s c.args.beats.now)) (c.args.out.now) (taken)
     (omega (arith, size, c.bytes_for.ensures, c.requires, c.if-out-past.false)) in
     let exact : bytes ≡ length (packed (c.args.beats.now)) = c.bytes_for.ensures ∙ sym (packed-size (c.args.beats.now)) in
-    accepted-so accepted (omega (arith, size, c.bytes_for.ensures, c.requires))
-    (record-made (Layout.Beaten (c.args.at)) c.args.kind (c.args.t) (c.args.s) (c.args.beats.now) (from + bytes - 2)
+    let made = record_in (Layout.Beaten c.args.at) c.args.kind c.args.t c.args.s c.args.beats.now in
+    let long-made : from + bytes ≡ length made = omega (arith, size, c.bytes_for.ensures, c.requires) in
+    let bytes-made : take from x ++ (c.pack.new.out ++ drop (from + bytes - from) (drop from x)) ≡ made ++ drop (length made) c.args.out.now =
+    record-made (Layout.Beaten (c.args.at)) c.args.kind (c.args.t) (c.args.s) (c.args.beats.now) (from + bytes - 2)
     from (from + bytes - from)
     (c.args.out.now) x c.pack.new.out c.head.ensures c.pack.ensures (omega (arith, exact))
-    (omega (arith, c.requires)) (omega (arith, exact)))
-    (c.args.out.now)
+    (omega (arith, c.requires)) (omega (arith, exact)) in
+    record {
+      value = ap Answer.Value long-made ∙ ap (λ (v : Verdict). answer v (length made)) (sym accepted);
+      out_after = bytes-made ∙ ap (λ (v : Verdict). written v made c.args.out.now) (sym accepted);
+    }

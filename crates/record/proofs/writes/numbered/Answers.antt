@@ -1,6 +1,6 @@
 -- `writes::numbered` meets its contract: a refusal is the check's, or 12, and leaves what was lent; else head and
 -- number make the record. Assumes nothing.
-use mathlib.Core.List.{List}
+use mathlib.Core.List.{List, ◌++◌}
 use mathlib.Core.Path.{◌≡◌, ◌∙◌, ap, sym}
 use Prim.Native.Nat.{ℕ, ◌+◌, ◌-◌, ◌<◌}
 use native.Mathlib.Omega.{arith}
@@ -10,12 +10,15 @@ use Rattle.refusal.specs.declared.Verdict.{Verdict}
 use Rattle.refusal.proofs.Theorems.{answer-refused, answer-value}
 use Rattle.schedule.specs.Check.{checked}
 use Rattle.schedule.proofs.Theorems.{accepted-schedule}
-use Rattle.circle.proofs.Forms.{refused-so, accepted-so}
+use Rattle.circle.proofs.Forms.{refused-so}
 use Rattle.number.specs.Number.{number_of}
 use Rattle.record.specs.declared.layout.Layout.{Layout}
 use Rattle.record.specs.declared.layout.Numbering.{Numbering}
 use Rattle.record.specs.Bytes.{low_first}
-use Rattle.record.specs.Record.{record_in}
+use Rattle.record.specs.Record.{record_in, known_answer, known_left, written}
+use Rattle.refusal.specs.declared.Answer.{Answer}
+use Rattle.refusal.specs.Answer.{answer}
+use Rattle.refusal.specs.declared.Refusal.TheVariants.{NoRoom}
 use Rattle.record.proofs.Numerals.{length-low}
 use Rattle.record.proofs.Writing.{record-made, numbered-size, write-refused, write-short, write-taken}
 use borrow.Author.Rules.{rules}
@@ -29,7 +32,11 @@ returns-then-out-end c =
     let refused =
     write-short (c.args.t) (c.args.s) (c.args.beats.now) ((record_in ((Layout.Numbered c.args.at Numbering.Catalogue)) c.args.kind c.args.t c.args.s c.args.beats.now)) (c.args.out.now) answered.0
     (omega (arith, size, c.requires, c.if-out-end.true)) in
-    refused-so refused _ _ (c.args.out.now)
+    let made = record_in (Layout.Numbered c.args.at Numbering.Catalogue) c.args.kind c.args.t c.args.s c.args.beats.now in
+    let both : (Answer.Refused NoRoom ≡ known_answer c.args.t c.args.s c.args.beats.now made c.args.out.now)
+        × (c.args.out.now ≡ known_left c.args.t c.args.s c.args.beats.now made c.args.out.now) =
+    refused-so refused _ _ (c.args.out.now) in
+    record { value = both.0; out_after = both.1 }
 
 pub returns-else-out-end : goal.returns-else-out-end
 returns-else-out-end c =
@@ -50,9 +57,14 @@ returns-else-out-end c =
     c.spell.ensures
     ∙ ap (λ (j : ℕ). low_first j c.in-Value.number) eight
     ∙ ap (low_first 8) answered.1 in
-    accepted-so accepted (omega (arith, size, c.requires))
-    (record-made ((Layout.Numbered c.args.at Numbering.Catalogue)) c.args.kind (c.args.t) (c.args.s) (c.args.beats.now) (from + 8 - 2) from
+    let made = record_in (Layout.Numbered c.args.at Numbering.Catalogue) c.args.kind c.args.t c.args.s c.args.beats.now in
+    let long-made : from + 8 ≡ length made = omega (arith, size, c.requires) in
+    let bytes-made : take from x ++ (c.spell.new.out ++ drop n (drop from x)) ≡ made ++ drop (length made) c.args.out.now =
+    record-made ((Layout.Numbered c.args.at Numbering.Catalogue)) c.args.kind (c.args.t) (c.args.s) (c.args.beats.now) (from + 8 - 2) from
     n (c.args.out.now) x
     c.spell.new.out c.head.ensures body (omega (arith, long)) (omega (arith, c.requires))
-    (omega (arith, long)))
-    (c.args.out.now)
+    (omega (arith, long)) in
+    record {
+      value = ap Answer.Value long-made ∙ ap (λ (v : Verdict). answer v (length made)) (sym accepted);
+      out_after = bytes-made ∙ ap (λ (v : Verdict). written v made c.args.out.now) (sym accepted);
+    }

@@ -1,0 +1,13 @@
+-- `outline_back::stands` meets its contract. The loop's invariant: the bytes of the piece that were compared stand in
+-- the text. The measure is the bytes still to compare. Assumes nothing.
+use Prim.Native.Nat.{◌-◌}
+use lib.ListN.{length}
+use Rattle.outline_back.proofs.Standing.{Begun, begun-none, begun_more, stood-short, stood-other, stood-whole}
+use borrow.Author.Rules.{rules}
+use Rattle.outline_back.proofs.stands.Given as goal
+
+abbrev pub invariant-loop-i : goal.invariant-loop-i
+invariant-loop-i l = Begun l.text l.at l.piece l.i
+
+abbrev pub decreases-loop-i : goal.decreases-loop-i
+decreases-loop-i l = length l.piece - l.i
