@@ -190,11 +190,13 @@ unfolding stem decimal digits
 reads-1 = more [] refl full full
 
 reads_nothing : Reads [] 1 1 one_line none one_line 1 → ⊥
-reads_nothing q = by 1 one_line q refl
+reads_nothing q = by 1 one_line none one_line 1 q refl refl refl
   where
-    by : (n : ℕ) (y : List ℕ) → Reads [] 1 n one_line none y n → n ≡ 1 → ⊥
-    by n y full z = omega (arith, z)
-    by n y (stop f) z = unfold stem decimal digits in f [] refl
+    by : (n : ℕ) (x : List ℕ) (o : Outline) (y : List ℕ) (m : ℕ)
+        → Reads [] 1 n x o y m → n ≡ 1 → x ≡ one_line → o ≡ none → ⊥
+    by n x o y m full z e q = omega (arith, z)
+    by n x o y m (stop f) z e q = unfold stem decimal digits in f [] e
+    by n x o y m (more w d inner rest) z e q = cc
 
 reads-2 : (y : List ℕ) (m : ℕ) → Reads [] 1 1 (50 ∷ 10 ∷ []) (alone then none) y m → ⊥
 reads-2 y m (more w e inner rest) = unfold stem decimal digits in
