@@ -32,13 +32,13 @@ use Rattle.stream.specs.Pass.{Lines, rests, last, more, Passes}
 use Rattle.stream.proofs.Fronts.{unsettled-few, is_open}
 
 module _ {line : List ℕ → List ℕ} {widest : ℕ} where
-  pub lines-open : {room : ℕ} {ended : Bool} {src text left : List ℕ} {front : Front}
+  pub lines-open : {ended : Bool} {room : ℕ} {src text left : List ℕ} {front : Front}
       → Lines line widest ended room src text left front → front ≡ Front.Short → ended ≡ false
   lines-open {ended = ended} (rests {src = src} e i) f = (is_open ended src (e ∙ f)).0
   lines-open (last e i j) f = let z : ◌≡◌ {A = ℕ} 0 1 = cc in absurd (omega arith)
   lines-open (more e i j q) f = lines-open q f
 
-  pub lines-few : {room : ℕ} {ended : Bool} {src text left : List ℕ} {front : Front}
+  pub lines-few : {ended : Bool} {room : ℕ} {src text left : List ℕ} {front : Front}
       → Lines line widest ended room src text left front → front ≡ Front.Short → length left < 2 + longest
   lines-few {ended = ended} (rests {src = src} e i) f = unsettled-few src (is_open ended src (e ∙ f)).1
   lines-few (last e i j) f = let z : ◌≡◌ {A = ℕ} 0 1 = cc in absurd (omega arith)

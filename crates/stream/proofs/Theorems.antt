@@ -129,7 +129,7 @@ module _ (line : List ℕ → List ℕ) (own : Own line) where
   onwards Front.Short src = list_of line src
   onwards Front.Over src = []
 
-  pub pass-list : {widest room : ℕ} {ended : Bool} {src text left : List ℕ} {front : Front}
+  pub pass-list : {widest : ℕ} {ended : Bool} {room : ℕ} {src text left : List ℕ} {front : Front}
       → Lines line widest ended room src text left front
       → (rest : List ℕ) → (ended ≡ true → rest ≡ []) → list_of line (src ++ rest) ≡ text ++ onwards front (left ++ rest)
   pass-list (rests {front = Front.Record} e i) rest h = refl

@@ -6,6 +6,7 @@ use Rattle.outline_back.proofs.Headings.{reads-beats}
 use Rattle.outline_back.proofs.Whole.{found-whole, found-broken}
 use borrow.Author.Rules.{rules}
 use Rattle.outline_back.proofs.read.Goals as goal
+use Rattle.outline_back.proofs.read.Goals.{then-end-eq0+else-end-text, else-end-eq0}
 
 pub returns-then-end-text : goal.returns-then-end-text
 returns-then-end-text c = found-whole c.list-end.ensures c.requires c.if-end-eq0.true c.if-end-text.true
@@ -16,4 +17,6 @@ overflow_sub-good c = omega (arith, reads-beats c.list-end.ensures.reads)
 pub returns : goal.returns
 returns c =
     found-broken c.list-end.ensures
-    (λ q. ⊎_elim (λ w. w.2.left q.1) (λ w. w.left q.0) c.if-end-eq0.branch)
+    (λ q. elim c.if-end-eq0.branch [
+      then-end-eq0+else-end-text w ↦ w.if-end-text.false q.1
+    | else-end-eq0 w ↦ w.if-end-eq0.false q.0 ])

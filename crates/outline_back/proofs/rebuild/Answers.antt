@@ -1,7 +1,10 @@
 -- `outline_back::rebuild` meets its contract: what was read is copied where the text is an outline's. Assumes nothing.
-use mathlib.Core.Path.{◌≡◌, ◌∙◌}
+use mathlib.Core.List.{List, ◌++◌}
+use mathlib.Core.Path.{◌≡◌, ◌∙◌, ap, sym}
+use Prim.Native.Nat.{ℕ}
 use native.Mathlib.Omega.{arith}
-use lib.ListN.{length}
+use lib.ListN.{length, drop}
+use lib.Seq.{take-length}
 use Rattle.schedule.proofs.Copied.{copied}
 use Rattle.outline_back.proofs.Sizes.{sizes-right}
 use Rattle.outline_back.proofs.Whole.{back_whole, back-broken}
@@ -17,4 +20,6 @@ returns-in-Accepted c =
     let written = c.read-verdict.new.room in
     let long : length written ≡ length out = c.read-verdict.auto.room ∙ c.requires.1 in
     back_whole out _ c.requires.0 c.read-verdict.ensures c.in-Accepted.is
-    (c.copy.ensures.text ∙ copied written out long)
+    (c.copy.ensures.text
+    ∙ ap (λ (w : List ℕ). w ++ drop (length written) out) (sym (take-length written))
+    ∙ copied written out long)
