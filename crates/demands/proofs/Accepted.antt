@@ -196,6 +196,12 @@ accepted-beats m x (of-outline {t} {s} {b} {text}) in-outline g =
     (accepted-schedule t s b (outline-checked t s b text (taken _ _ g.0.0))).1
 accepted-beats m x (of-write {kind} {t} {s} {b} {out}) in-write g =
     (accepted-schedule t s b (write_checked kind t s b out (taken _ _ g.0.0))).1
+accepted-beats m x of-count about g = elim about [ ]
+accepted-beats m x of-form about g = elim about [ ]
+accepted-beats m x of-form-on-sheet about g = elim about [ ]
+accepted-beats m x of-schedule-of-tree about g = elim about [ ]
+accepted-beats m x of-schedule-of-outline about g = elim about [ ]
+accepted-beats m x of-read about g = elim about [ ]
 
 -- the counts of a call that is asked about beats
 asked-counts : {c : Call} {b : List ℕ} → BeatsOf c b → (t : ℕ) × (s : ℕ) × CountsOf c t s

@@ -1,0 +1,62 @@
+-- `list_window` meets its contract. The loop's invariant is `Going`: the records before `at` are listed, and whatever
+-- the rest of the pass lists follows their lines. The measure is the bytes after `at`: every record that is passed over
+-- takes some. Assumes nothing.
+use mathlib.Core.Bool.{Bool, true, false}
+use mathlib.Core.List.{List, [], ◌∷◌}
+use mathlib.Core.Logic.{⊎_elim}
+use mathlib.Core.Path.{◌≡◌, refl, sym, ◌∙◌}
+use Prim.Native.Nat.{ℕ, ◌+◌, ◌-◌, ◌≤◌, ◌<◌}
+use native.Mathlib.Omega.{arith}
+use lib.ListN.{length, drop, length-drop}
+use lib.Seq.{length-take-le}
+use Rattle.stream.specs.declared.Front.{Front}
+use Rattle.stream.specs.Stream.{front_of}
+use Rattle.stream.specs.Pass.{Passes}
+use Rattle.stream.proofs.Going.{tail, Going, going_start, going_more, going-fits, going_less, going-rests, going-last}
+use Rattle.lists.specs.Listed.{line_of, widest}
+use borrow.Author.Rules.{rules}
+use borrow.Rule.Slice.PartMut.{put_mid, same_len_mid}
+use denote.Enum.Declared.{tag_of}
+use types.Run.{OneOf}
+use Rattle.stream.specs.contracts.Front.{the_type}
+use Rattle.lists.proofs.list_window.Goals as goal
+
+-- the front is no record where its tag is one of the other two
+no_record : (f : Front) → OneOf (1 ∷ 2 ∷ []) (tag_of the_type f) → f ≡ Front.Record → ⊥
+no_record Front.Record k e = ⊎_elim (λ h. omega (arith, h)) (λ h. omega (arith, h)) k
+no_record Front.Short k e = let z : ◌≡◌ {A = ℕ} 0 1 = cc in omega arith
+no_record Front.Over k e = let z : ◌≡◌ {A = ℕ} 0 1 = cc in omega arith
+
+pub returns-in_default : goal.returns-in_default
+returns-in_default c =
+    going-rests (line_of c.args.which) widest c.args.ended c.args.src.now
+    c.args.text.now c.loop-room.invariant.1 (sym c.at_front-front.ensures)
+    (λ e. absurd (no_record c.at_front-front.result c.in_default.keys2 e))
+
+pub returns-then-text-put-lt-WIDEST : goal.returns-then-text-put-lt-WIDEST
+returns-then-text-put-lt-WIDEST c =
+    going-rests (line_of c.args.which) widest c.args.ended c.args.src.now
+    c.args.text.now c.loop-room.invariant.1
+    (sym c.at_front-front.ensures ∙ c.in-Record.is)
+    (λ e. omega (arith, c.if-text-put-lt-WIDEST.true, c.loop-room.invariant.1.long))
+
+pub returns-then-printed : goal.returns-then-printed
+returns-then-printed c =
+    let going : Going ((line_of c.args.which)) widest (c.args.ended) (c.args.src.now) (c.args.text.now) (c.loop-room.at) (c.loop-room.put) (c.loop-room.text) = c.loop-room.invariant.1 in
+    let same : length ((put_mid (c.loop-room.put) (length (c.loop-room.text) - (c.loop-room.put)) (c.loop-room.text) (c.list-printed.new.out))) ≡ length (c.loop-room.text) = same_len_mid (c.loop-room.put) (length (c.loop-room.text) - (c.loop-room.put)) (c.loop-room.text) (c.list-printed.new.out) c.list-printed.auto.out in
+    let at-record : front_of (c.args.ended) (tail (c.args.src.now) (c.loop-room.at)) ≡ Front.Record = sym c.at_front-front.ensures ∙ c.in-Record.is in
+    let wide : widest ≤ length (c.args.text.now) - (c.loop-room.put) = omega (arith, c.if-text-put-lt-WIDEST.false, going.long) in
+    let ends-here : c.list-printed.result.last ≡ true
+    → Passes ((line_of c.args.which)) widest (c.args.ended) (c.args.src.now) (c.args.text.now)
+    (record { consumed = (c.loop-room.at); bytes = (c.loop-room.put) + c.list-printed.result.bytes; front = Front.Over }) ((put_mid (c.loop-room.put) (length (c.loop-room.text) - (c.loop-room.put)) (c.loop-room.text) (c.list-printed.new.out))) = going-last ((line_of c.args.which)) widest (c.args.ended) (c.args.src.now) (c.args.text.now) (going) c.list-printed.ensures refl (same) (at-record) (wide) in
+    ends-here c.if-printed.true
+
+pub loop-room-preserved : goal.loop-room-preserved
+loop-room-preserved c =
+    let going : Going ((line_of c.args.which)) widest (c.args.ended) (c.args.src.now) (c.args.text.now) (c.loop-room.at) (c.loop-room.put) (c.loop-room.text) = c.loop-room.invariant.1 in
+    let same : length ((put_mid (c.loop-room.put) (length (c.loop-room.text) - (c.loop-room.put)) (c.loop-room.text) (c.list-printed.new.out))) ≡ length (c.loop-room.text) = same_len_mid (c.loop-room.put) (length (c.loop-room.text) - (c.loop-room.put)) (c.loop-room.text) (c.list-printed.new.out) c.list-printed.auto.out in
+    let at-record : front_of (c.args.ended) (tail (c.args.src.now) (c.loop-room.at)) ≡ Front.Record = sym c.at_front-front.ensures ∙ c.in-Record.is in
+    let wide : widest ≤ length (c.args.text.now) - (c.loop-room.put) = omega (arith, c.if-text-put-lt-WIDEST.false, going.long) in
+    let goes_on : c.list-printed.result.last ≡ false
+    → Going ((line_of c.args.which)) widest (c.args.ended) (c.args.src.now) (c.args.text.now) ((c.loop-room.at) + c.list-printed.result.consumed) ((c.loop-room.put) + c.list-printed.result.bytes) ((put_mid (c.loop-room.put) (length (c.loop-room.text) - (c.loop-room.put)) (c.loop-room.text) (c.list-printed.new.out))) = going_more ((line_of c.args.which)) widest (c.args.ended) (c.args.src.now) (c.args.text.now) (going) c.list-printed.ensures refl (same) (at-record) (wide) in
+    (c.list-printed.auto.room ∙ c.loop-room.invariant.0, goes_on c.if-printed.false)

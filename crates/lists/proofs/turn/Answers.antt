@@ -1,0 +1,7 @@
+-- `turn` meets its contract: a pass, and then an exchange. Assumes nothing.
+use Rattle.stream.proofs.Stops.{ready}
+use borrow.Author.Rules.{rules}
+use Rattle.lists.proofs.turn.Goals as goal
+
+pub exchange-requires : goal.exchange-requires
+exchange-requires c = ready c.requires.2 c.requires.1.any-record c.list_window-pass.ensures
