@@ -21,17 +21,12 @@ use types.Run.{OneOf}
 use Rattle.stream.specs.contracts.Front.{the_type}
 use Rattle.lists.proofs.list_window.Goals as goal
 
--- the front is no record where its tag is one of the other two
-no_record : (f : Front) → OneOf (1 ∷ 2 ∷ []) (tag_of the_type f) → f ≡ Front.Record → ⊥
-no_record Front.Record k e = ⊎_elim (λ h. omega (arith, h)) (λ h. omega (arith, h)) k
-no_record Front.Short k e = let z : ◌≡◌ {A = ℕ} 0 1 = cc in omega arith
-no_record Front.Over k e = let z : ◌≡◌ {A = ℕ} 0 1 = cc in omega arith
 
 pub returns-in_default : goal.returns-in_default
 returns-in_default c =
     going-rests (line_of c.args.which) widest c.args.ended c.args.src.now
     c.args.text.now c.loop-room.invariant.1 (sym c.at_front-front.ensures)
-    (λ e. absurd (no_record c.at_front-front.result c.in_default.keys2 e))
+    (λ e. absurd (c.in_default.not-Record e))
 
 pub returns-then-text-put-lt-WIDEST : goal.returns-then-text-put-lt-WIDEST
 returns-then-text-put-lt-WIDEST c =

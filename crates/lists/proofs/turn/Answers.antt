@@ -4,4 +4,4 @@ use borrow.Author.Rules.{rules}
 use Rattle.lists.proofs.turn.Goals as goal
 
 pub exchange-requires : goal.exchange-requires
-exchange-requires c = ready c.requires.2 c.requires.1.any-record c.list_window-pass.ensures
+exchange-requires g c = ready c.requires.2 c.requires.1.any-record c.list_window-pass.ensures
