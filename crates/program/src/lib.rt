@@ -3,6 +3,8 @@
 // (host/command.c), tell a failure in the same words, and end with the same statuses. [E4] [X10]
 #![tactic(auto)]
 
+ghost use Rattle.std.specs.Prelude.{◌≡◌, IfOk, Ok};
+
 use lists::Which;
 use std::io;
 use std::io::{ErrorKind, Read, Write};
@@ -25,7 +27,9 @@ impl<S> Told<S> {
     }
 
     // What a call gave, with the reason of a failure kept.
-    fn told(&mut self, given: io::Result<usize>) -> io::Result<usize> {
+    fn told(&mut self, given: io::Result<usize>) -> io::Result<usize>
+        ensures { IfOk result (λ n. given ≡ Ok n) }
+    {
         let Err(error) = given else {
             return given;
         };
