@@ -16,6 +16,7 @@ HEADER = ("id", "claim", "kind", "where")
 TAG = re.compile(r"\[([A-Za-z]+\d+[A-Za-z]?)\]")
 PARTS = ("README.md", "crates.txt", ".ci", "include", "crates", "host", "bench", "docs")
 OF_CRATE = ("specs", "src", "proofs", "must-fail")
+ATTRIBUTE = r"|#\[.*\]"  # it stands between a comment and what it is about
 PYTHON = r"^(?:def |class )?(\w+)(?=\(|:| = )"
 
 
@@ -59,7 +60,7 @@ def about(kind, text, comment):
         above = above.rpartition("\n")[2]
         return name_of(kind, above) if above.endswith(":") else ""
     below = text[comment.end() :].removeprefix("\n")
-    while (more := re.match(rf"[ \t]*(?:{COMMENT[kind]})", below)) and more.end():
+    while (more := re.match(rf"[ \t]*(?:{COMMENT[kind]}{ATTRIBUTE if kind == 'rt' else ''})", below)) and more.end():
         below = below[more.end() :].removeprefix("\n")
     return name_of(kind, below.partition("\n")[0])
 
@@ -70,7 +71,7 @@ def in_head(path):
     for line in head:
         names = entries(line) if line.startswith("--     ") and line[7:8].strip() else names
         listed = [name.split(" ") for name in names]
-        own = [f"_{words[1]}_" if len(words) == 3 and not words[1].isalnum() else words[0] for words in listed]
+        own = [f"◌{words[1]}◌" if len(words) == 3 and not words[1].isalnum() else words[0] for words in listed]
         found += [Tag(claim, path, name) for claim in TAG.findall(line) for name in own or [""]]
     return found, sum(len(line) + 1 for line in head)
 
