@@ -60,7 +60,8 @@ def shell_faults(path):
 
 def hold_sources():
     files = [str(path.relative_to(ROOT)) for part in ("host", "crates") for path in sorted(ROOT.glob(f"{part}/**/*")) if path.is_file()]
-    held = [(path, {"py": python_faults, "sh": shell_faults}.get(language(path))) for path in files if "__pycache__" not in path]
+    files = [path for path in files if not {"__pycache__", "out"} & {*path.split("/")}]
+    held = [(path, {"py": python_faults, "sh": shell_faults}.get(language(path))) for path in files]
     held = [(path, faults) for path, faults in held if faults]
     return verdict([fault for path, faults in held for fault in faults(path)], len(held), "scripts")
 
