@@ -6,7 +6,7 @@ library defines, stands in the header with the same parameters, in the same orde
 widths, and it stands in the archive; neither has another. A slice is a pointer and then its length, which is
 called room for a text. The constants have the values of the crates. Every refusal has a text of its own. Every number in a comment is computed
 here, or listed with what holds it, and every mark is a claim. The archive brings no other name and no memory that can
-be written, and it needs nothing but the C library's memory functions, its read, write and open, and errno.
+be written, and it needs nothing but the C library's memory functions, its read and write, and errno.
 
 Prints each fault, and ends with status 1 if there is one.
 """
@@ -33,7 +33,7 @@ LANGUAGES = {
     "C++11": ("g++", "-x", "c++", "-std=c++11", *STRICT),
 }
 INCLUDES = {"stddef.h", "stdint.h"}
-BORROWED = {"memcpy", "memmove", "memset", "memcmp", "bcmp", "read", "write", "open", "__errno_location"}
+BORROWED = {"memcpy", "memmove", "memset", "memcmp", "bcmp", "read", "write", "__errno_location"}
 LENGTHS = {"text": "room"}  # of slices, where they are not called length
 UNKNOWN = "unknown refusal"
 
