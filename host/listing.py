@@ -1,8 +1,8 @@
 """The lists of order records, the programs that write them, what a run of one should be, and how it is held to that.
 
-A list has two programs of its name. The command is installed, and is host/command.c over a function of the library. The Rattle program does
-the same and has the same statuses, but takes no argument, leaves its standard output open and of the signals SIGXFSZ as it is, and shows
-the system's number of a failure behind its text.
+A list has two programs of its name. The command is installed, and is host/command.c over a function of the library. The
+Rattle program does the same and has the same statuses, but takes no argument, leaves its standard output open and of
+the signals SIGXFSZ as it is, and shows the system's number of a failure behind its text.
 """
 import bisect
 import functools

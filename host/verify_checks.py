@@ -12,7 +12,6 @@ import ast
 import contextlib
 import os
 import pathlib
-import re
 import shutil
 import subprocess
 import sys
@@ -25,7 +24,8 @@ from verifying import ROOT, Wrong, contents, ended, language, parsed, sure, verd
 
 LIMIT = 300  # seconds for a check
 LISTS = ("packing_list", "explain", "outline_list")
-PROGRAMS = tuple(path for name in LISTS for path in (f"target/host/{name}", f"crates/{name}/out/{name}"))  # those that list
+# The programs that list.
+PROGRAMS = tuple(path for name in LISTS for path in (f"target/host/{name}", f"crates/{name}/out/{name}"))
 BUILT = ("crates/ghanveltri/out/libghanveltri.a", "target/host/libghanveltri.*", *PROGRAMS, "target/ci.log")
 RIGHT = ".right"  # after the name of a program, as it was built
 
@@ -114,13 +114,13 @@ def misspell(start):
     return written(change)
 
 
-def retold(edit, says):
-    """A log in which rt says another thing of an edit."""
+def retold(says):
+    """A log in which rt says another thing of the edit that is broken here."""
 
     def change(text):
-        lines = re.findall(rf"^rt: must-fail {edit}\.edit: .*", text, re.M)
-        sure(len(lines) == 1, f"{len(lines)} lines are about {edit}")
-        return text.replace(lines[0], f"rt: must-fail {edit}.edit: {says}")
+        lines = [line for line in text.splitlines() if line.startswith(ABOUT)]
+        sure(len(lines) == 1, f"{len(lines)} lines begin with {ABOUT!r}")
+        return text.replace(lines[0], ABOUT + says)
 
     return written(change)
 
@@ -188,7 +188,7 @@ THE_SAME = {"functions_agree_sanitized"}  # as functions_agree, built otherwise
 OUTSIDE = {name: "none" for name in ("GV_ARCHIVE", "GV_PACKING_LIST", "GV_SEED", "PYTHONPATH", "CPATH", "ASAN_OPTIONS")}
 OUTSIDE |= {"PYTHONOPTIMIZE": "1"}
 # The gate with a toolchain that proves nothing, and one test: no variable from outside has come to it.
-ALL_WELL = "rt: ok; handles allowed: none; must-fail edits: 1 refused; every proof and must-fail edit was done in this run"
+ALL_WELL = "rt: ok; handles allowed: none; must-fail edits: 1 refused; every proof was done in this run"
 GATE = {
     "gate/bin/rt": f"#!/bin/sh\n[ \"$1\" != ci ] || printf '%s\\n' '{ALL_WELL}' '1 passed, 0 failed'\n",
     "gate/crates/ghanveltri/src/lib.rt": "",
@@ -215,9 +215,11 @@ FIRST = "| claim | kind | where |\n|---|---|---|---|\n| D1a |"  # after the firs
 THEOREMS, CASES, BOUNDED = "crates/number/proofs/Theorems.antt", "crates/bounded/proofs/Cases.antt", "crates/bounded/specs/Bounded.antt"
 TREE, TREES, LINES = "crates/tree/specs/Tree.antt", "crates/tree/proofs/Cases.antt", "crates/line/proofs/Cases.antt"
 HEADINGS = "crates/outline/specs/Outline.antt"
-EDIT, REFUSED = "accepted_has_a_place", "refused, as it must be"
+EDIT, REFUSED = "accepted_has_a_place", "refused, as it must be"  # of the crate `refusal`
+ABOUT = f"rt: must-fail refusal/{EDIT}.edit: "
 ANOTHER = "./proofs/Answer/value/Answers.antt:1:1: error: `returns`: the two types differ"
-IN_CODE = f"note: src/lib.rt:{line_of('crates/refusal/src/lib.rt', 'why.number()')}:9: it is not proved that it holds (`returns`)"
+OF_VERDICT = line_of("crates/refusal/src/lib.rt", "why.number()")  # a line of Verdict::refusal
+IN_CODE = f"note: src/lib.rt:{OF_VERDICT}:9: it is not proved that it holds (`returns`)"
 SHAM, LOG = f"crates/refusal/must-fail/{EDIT}.edit", "target/ci.log"
 HEADER, ARCHIVE, README = "include/ghanveltri.h", "target/host/libghanveltri.a", "README.md"
 PAGE, LIST_PAGE, EXAMPLE = "host/man/ghanveltri.3", "host/man/packing_list.1", "host/example.c"
@@ -349,15 +351,15 @@ BREAKS = {
     ],
     "edits_are_listed": [
         Break("no log", LOG, gone, (LOG, "rt must-fail", "rt ci")),
-        Break("an edit that is not tried", LOG, drop(f"rt: must-fail refusal/{EDIT}.edit: "), (EDIT, "nothing, by the log")),
-        Break("a refusal without a fact", LOG, retold(f"refusal/{EDIT}", f"{REFUSED}: what"), (EDIT, "nothing that can be read")),
-        Break("a refusal of another need", LOG, retold(f"refusal/{EDIT}", f"{REFUSED}: {ANOTHER}"), (EDIT, "`Answer::value`: `returns`")),
-        Break("a refusal in the code", LOG, retold(f"refusal/{EDIT}", f"{REFUSED}: {IN_CODE}"), (EDIT, "`Verdict::refusal`: `returns`")),
-        Break("a refusal that is cut short", LOG, retold(f"refusal/{EDIT}", f"{REFUSED}: {IN_CODE[:-4]}"), (EDIT, "`Verdict::refusal`: `retur..")),
-        Break("a refusal for names alone", LOG, retold(f"refusal/{EDIT}", f"{REFUSED} (only because"), (EDIT, "only because")),
-        Break("a refusal by a limit", LOG, retold(f"refusal/{EDIT}", f"{REFUSED} (only by a limit"), (EDIT, "only by a limit")),
-        Break("a bad edit", LOG, retold(f"refusal/{EDIT}", "BAD EDIT: why"), (EDIT, "BAD EDIT")),
-        Break("an edit that is proved", LOG, retold(f"refusal/{EDIT}", "NOT REFUSED: why"), (EDIT, "NOT REFUSED")),
+        Break("an edit that is not tried", LOG, drop(ABOUT), (EDIT, "nothing, by the log")),
+        Break("a refusal without a fact", LOG, retold(f"{REFUSED}: what"), (EDIT, "nothing that can be read")),
+        Break("a refusal of another need", LOG, retold(f"{REFUSED}: {ANOTHER}"), (EDIT, "`Answer::value`: `returns`")),
+        Break("a refusal in the code", LOG, retold(f"{REFUSED}: {IN_CODE}"), (EDIT, "`Verdict::refusal`: `returns`")),
+        Break("one cut short", LOG, retold(f"{REFUSED}: {IN_CODE[:-4]}"), (EDIT, "`Verdict::refusal`: `retur..")),
+        Break("a refusal for names alone", LOG, retold(f"{REFUSED} (only because"), (EDIT, "only because")),
+        Break("a refusal by a limit", LOG, retold(f"{REFUSED} (only by a limit"), (EDIT, "only by a limit")),
+        Break("a bad edit", LOG, retold("BAD EDIT: why"), (EDIT, "BAD EDIT")),
+        Break("an edit that is proved", LOG, retold("NOT REFUSED: why"), (EDIT, "NOT REFUSED")),
         Break("a sham deleted", SHAMS, drop("| P6b "), (SHAMS, "P6b")),
         Break("another count", SHAMS, swap(" wrong programs in ", "0 wrong programs in "), (SHAMS, "it says")),
         Break("another fact", SHAM, swap("`accepted-place`.", "`accepted`."), (EDIT, "`accepted-place`, and it says")),
@@ -534,7 +536,7 @@ BREAKS = {
         Break("the project's variables let in", "gate/.ci/run", swap("GV_* | ", ""), ("GV_ARCHIVE", "GV_PACKING_LIST", "GV_SEED"), OUTSIDE),
         Break("Python's variables let in", "gate/.ci/run", swap("PYTHON* | ", ""), ("PYTHONOPTIMIZE",), OUTSIDE),
         Break("a crate not proved", "gate/bin/rt", swap("1 passed, 0 failed", "1 passed, 1 failed"), ("1 passed, 1 failed",)),
-        Break("an edit that is bad", "gate/bin/rt", swap("1 refused;", "1 refused, 1 bad;"), ("1 bad;", "a must-fail edit is bad")),
+        Break("a bad edit", "gate/bin/rt", swap("1 refused;", "1 refused, 1 bad;"), ("1 bad;", "edit is bad")),
         Break("a toolchain that fails", "gate/bin/rt", swap("0 failed'", "0 failed'; exit 1"), ("1 passed, 0 failed",)),
         Break("a test that fails", "gate/host/tests/one", becomes("#!/bin/sh\necho broken\nexit 1\n"), ("broken",)),
     ],

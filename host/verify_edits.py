@@ -1,11 +1,12 @@
 #!/usr/bin/env python3
-"""Holds the must-fail edits to what rt says of them, and docs/SHAMS.md to the edits. An edit is one wrong program or several, each a
-paragraph that changes a function of its own. Its comment says what is wrong, and then, in a line by itself, what it is refused at:
+"""Holds the must-fail edits to what rt says of them, and docs/SHAMS.md to the edits. An edit is one wrong program or
+several, each a paragraph that changes a function of its own. Its comment says what is wrong, and then, in a line by
+itself, what it is refused at:
 # Refused at `place`: `fact`.
-rt says of each edit what it refused first. Of an edit of one wrong program that is what its comment says; of several it is what one of the
-comments says. An edit that rt did not refuse, or refused only because a proof names what the edit took away, or only by a limit of its
-own, is a fault. The document says how many there are, so that none goes unseen, and its table of where each sham is tried has the manual's
-shams, by their claims.
+rt says of each edit what it refused first. Of an edit of one wrong program that is what its comment says; of several it
+is what one of the comments says. An edit that rt did not refuse, or refused only because a proof names what the edit
+took away, or only by a limit of its own, is a fault. The document says how many there are, so that none goes unseen,
+and its table of where each sham is tried has the manual's shams, by their claims.
   verify_edits.py [LOG]           LOG is what rt ci or rt must-fail printed, target/ci.log if none is named
   verify_edits.py --list [LOG]    prints what each edit was refused at
   verify_edits.py --write [LOG]   writes that into the comment of each edit of one wrong program, to be read there
@@ -44,14 +45,14 @@ def changed(crate, edit):
 
 
 def fact_of(crate, edit, said):
-    """The first fact that was refused, by the place that it belongs to: a function by its module and type, or a file of lemmas."""
+    """The first fact that was refused, and what has it: a function by its module and type, or a file of lemmas."""
     if not said.startswith(BY_A_FACT):
         return said
     said = said.removeprefix(BY_A_FACT)
     if match := IN_A_PROOF.match(said):
         part, file, name = match.groups()
-        of = next((file.removesuffix(end).replace("/", "::") for end in OF_A_FUNCTION if file.endswith(end)), f"{part}/{file}")
-        return f"`{of}`: `{name}`"
+        of = [file.removesuffix(end).replace("/", "::") for end in OF_A_FUNCTION if file.endswith(end)]
+        return f"`{of[0] if of else f'{part}/{file}'}`: `{name}`"
     if match := IN_THE_CODE.match(said):
         path, line, name, whole = match.groups()
         texts = changed(crate, edit)
@@ -66,7 +67,7 @@ def facts(log):
 
 
 def is_said(found, said):
-    """Whether a comment says what was found. rt cuts a long line short: a name that it lost the end of ends in two dots here."""
+    """Whether a comment says what was found. rt cuts a long line short: a name without its end has two dots here."""
     return said.startswith(found.removesuffix("..")) if found.endswith("..") else said == found
 
 
@@ -110,8 +111,10 @@ def main(arguments):
     mode = arguments.pop(0) if arguments[:1] in (["--list"], ["--write"]) else ""
     sure(len(arguments) < 2, "verify_edits.py [--list | --write] [LOG]")
     log = arguments[0] if arguments else LOG
-    sure((ROOT / log).is_file(), f"there is no {log}, which .ci/run leaves: run rt ci or rt must-fail, and keep there what it prints")
-    paths = {(path.parts[-3], path.stem): str(path.relative_to(ROOT)) for path in sorted(ROOT.glob("crates/*/must-fail/*.edit"))}
+    how = "which .ci/run leaves: run rt ci or rt must-fail, and keep there what it prints"
+    sure((ROOT / log).is_file(), f"there is no {log}, {how}")
+    files = sorted(ROOT.glob("crates/*/must-fail/*.edit"))
+    paths = {(path.parts[-3], path.stem): str(path.relative_to(ROOT)) for path in files}
     known = facts(contents(log))
     if mode == "--write":
         write(paths, known)
@@ -119,7 +122,9 @@ def main(arguments):
         print(*(f"{crate}/{edit}: {found}" for (crate, edit), found in sorted(known.items())), sep="\n")
     edits = {name: refused_at(path) for name, path in paths.items()}
     programs = sum(map(len, edits.values()))
-    found = [fault for name, said in edits.items() for fault in faults("/".join(name), said, known.get(name, "nothing, by the log"))]
+    found = []
+    for name, said in edits.items():
+        found += faults("/".join(name), said, known.get(name, "nothing, by the log"))
     found += page_faults(programs, len(edits))
     return verdict(found, programs, f"wrong programs in {len(edits)} edits, each held to the fact that refuses it")
 

@@ -153,7 +153,8 @@ def defined_in_c():
     joined = re.findall(r"^joined=\((.*)\)$", BUILD.read_text(), re.M)
     if len(joined) != 1:
         raise SystemExit("host/build does not say the C of the library in one line joined=(..)")
-    texts = [output("gcc", "-E", "-P", "-std=c99", f"-I{HEADER.parent}", ROOT / f"host/{name}.c") for name in joined[0].split()]
+    sources = [ROOT / f"host/{name}.c" for name in joined[0].split()]
+    texts = [output("gcc", "-E", "-P", "-std=c99", f"-I{HEADER.parent}", source) for source in sources]
     return {name: own for text in texts for name, own in prototypes(text, "{").items()}
 
 
