@@ -15,7 +15,9 @@ CLAIMS = "docs/CLAIMS.md"
 HEADER = ("id", "claim", "kind", "where")
 TAG = re.compile(r"\[([A-Za-z]+\d+[A-Za-z]?)\]")
 PARTS = ("README.md", "crates.txt", ".ci", "include", "crates", "host", "bench", "docs")
+MADE = {"__pycache__", "out"}  # folders that are no part of the tree
 OF_CRATE = ("specs", "src", "proofs", "must-fail")
+ATTRIBUTE = r"|#\[.*\]"  # it stands between a comment and what it is about
 PYTHON = r"^(?:def |class )?(\w+)(?=\(|:| = )"
 
 
@@ -30,14 +32,14 @@ class Tag(NamedTuple):
 def order(path):
     """Where a file stands in the column."""
     first, *rest = path.split("/")
-    crates = [line.split(":")[0] for line in contents("crates.txt").splitlines() if not line.startswith("#")]
+    crates = re.findall(r"^(\w+)", contents("crates.txt"), re.M)
     own = (crates.index(rest[0]), OF_CRATE.index(rest[1]) if rest[1] in OF_CRATE else len(OF_CRATE)) if first == "crates" else ()
     return PARTS.index(first), own, path
 
 
 def files():
     found = [path for part in PARTS for path in ([ROOT / part] if (ROOT / part).is_file() else (ROOT / part).rglob("*"))]
-    paths = [str(path.relative_to(ROOT)) for path in found if path.is_file() and "__pycache__" not in path.parts]
+    paths = [str(path.relative_to(ROOT)) for path in found if path.is_file() and not MADE & {*path.parts}]
     return sorted((path for path in paths if path != CLAIMS), key=order)
 
 
@@ -59,7 +61,7 @@ def about(kind, text, comment):
         above = above.rpartition("\n")[2]
         return name_of(kind, above) if above.endswith(":") else ""
     below = text[comment.end() :].removeprefix("\n")
-    while (more := re.match(rf"[ \t]*(?:{COMMENT[kind]})", below)) and more.end():
+    while (more := re.match(rf"[ \t]*(?:{COMMENT[kind]}{ATTRIBUTE if kind == 'rt' else ''})", below)) and more.end():
         below = below[more.end() :].removeprefix("\n")
     return name_of(kind, below.partition("\n")[0])
 
@@ -70,7 +72,7 @@ def in_head(path):
     for line in head:
         names = entries(line) if line.startswith("--     ") and line[7:8].strip() else names
         listed = [name.split(" ") for name in names]
-        own = [f"_{words[1]}_" if len(words) == 3 and not words[1].isalnum() else words[0] for words in listed]
+        own = [f"◌{words[1]}◌" if len(words) == 3 and not words[1].isalnum() else words[0] for words in listed]
         found += [Tag(claim, path, name) for claim in TAG.findall(line) for name in own or [""]]
     return found, sum(len(line) + 1 for line in head)
 

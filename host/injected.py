@@ -13,7 +13,7 @@ import tempfile
 from typing import NamedTuple
 
 import records
-from listing import LISTED, NOT_READ, NOT_WRITTEN, NOTHING_TAKEN, READING, WRITING, Difference, Input, hold, run, told
+from listing import LISTED, NOT_READ, NOT_WRITTEN, NOTHING_TAKEN, READING, WRITING, Difference, Input, Told, hold, run
 from verifying import ROOT
 
 LIBRARY = "target/host/faults.so"
@@ -115,7 +115,7 @@ def not_read(lister, rules, *words, own, what=READING, data=b""):
     done, calls = injected(lister, rules, *words, data=data, sure=rules[-1:])
     reads = named(calls, "read")
     case = ", ".join(map(str, rules))
-    hold(case, lister, done, NOT_READ, told(what, rules[-1].value), own.listed(moved(reads)))
+    hold(case, lister, done, NOT_READ, Told(what, rules[-1].value), own.listed(moved(reads)))
     last(case, lister, reads, calls)
 
 
@@ -125,15 +125,15 @@ def not_written(lister, rules, *words, own, data=b""):
     writes = named(calls, "write")
     case = ", ".join(map(str, rules))
     reason = NOTHING_TAKEN if rules[-1].how == "nothing" else rules[-1].value
-    hold(case, lister, done, NOT_WRITTEN, told(WRITING, reason), own.list[: moved(writes)])
+    hold(case, lister, done, NOT_WRITTEN, Told(WRITING, reason), own.list[: moved(writes)])
     last(case, lister, writes, calls)
 
 
 def last(case, lister, same, calls):
-    """That the call that failed is the last of its name, and that the command tells by one write."""
+    """That the call that failed is the last of its name, and that the program tells by one write."""
     if same[-1].fault not in ("fail", "nothing"):
         raise Difference(f"{lister}, {case}: goes on with {same[-1]}")
-    if lister.has_status and len(named(calls, "tell")) != 1:
+    if len(named(calls, "tell")) != 1:
         raise Difference(f"{lister}, {case}: tells by {len(named(calls, 'tell'))} writes")
 
 
@@ -211,7 +211,7 @@ def of_a_named_file(listing):
             yield whole(listing.command, [Rule("open", "interrupt", times, 1)], name, own=own)
         for error in (errno.EMFILE, errno.EACCES, errno.EIO):
             done, _ = injected(listing.command, [Rule("open", "fail", error, 1)], name)
-            yield hold(f"open: {error}", listing.command, done, NOT_READ, told(f"cannot open {name}", error))
+            yield hold(f"open: {error}", listing.command, done, NOT_READ, Told(f"cannot open {name}", error))
         for number in numbers(whole(listing.command, [], name, own=own), "read"):
             for how, value in HARMLESS:
                 yield whole(listing.command, [Rule("read", how, value, number)], name, own=own)
@@ -229,13 +229,13 @@ def of_the_close(listing):
         for words, output in (((), own.list), (("--help",), None), (("--version",), None)):
             done, _ = injected(listing.command, rules, *words, data=own.data)
             right = done.output if output is None else output
-            yield hold(f"{words} {rules[0]}", listing.command, done, NOT_WRITTEN, told(WRITING, error), right)
+            yield hold(f"{words} {rules[0]}", listing.command, done, NOT_WRITTEN, Told(WRITING, error), right)
 
 
 def of_the_telling(listing):
     """A line on standard error that the system takes in parts; and one that it does not take: the status still tells."""
     read = Rule("read", "fail", errno.EIO, 1)
-    line = told(READING, errno.EIO)
+    line = Told(READING, errno.EIO)
     for how, value in HARMLESS:
         done, _ = injected(listing.command, [read, Rule("tell", how, value)])
         yield hold(f"tell {how}", listing.command, done, NOT_READ, line)
@@ -253,7 +253,7 @@ def of_help_and_version(listing):
             yield hold(f"{word}, {how}", listing.command, done, LISTED, b"", text)
         for how, value, reason in (("fail", errno.EIO, errno.EIO), ("nothing", 0, NOTHING_TAKEN)):
             done, _ = injected(listing.command, [Rule("write", how, value, 1)], word)
-            yield hold(f"{word}, {how}", listing.command, done, NOT_WRITTEN, told(WRITING, reason))
+            yield hold(f"{word}, {how}", listing.command, done, NOT_WRITTEN, Told(WRITING, reason))
 
 
 PARTS = (each_call, all_calls, among_other_faults, of_a_named_file, of_the_close, of_the_telling, of_help_and_version)

@@ -1,7 +1,8 @@
 """The lists of order records, the programs that write them, what a run of one should be, and how it is held to that.
 
-A list has two programs of its name. The command is installed, and is host/command.c over a function of the library. The Rattle program does
-the same, but takes no argument, has no status of its own, and leaves the signals and its standard output as they are.
+A list has two programs of its name. The command is installed, and is host/command.c over a function of the library. The
+Rattle program does the same and has the same statuses, but takes no argument, leaves its standard output open and of
+the signals SIGXFSZ as it is, and shows the system's number of a failure behind its text.
 """
 import bisect
 import functools
@@ -13,6 +14,7 @@ from typing import Callable, NamedTuple
 import explaining
 import outlining
 import packing
+from header import HOW
 from verifying import ROOT
 
 LIMIT = 60  # seconds for a run
@@ -29,7 +31,7 @@ class Lister(NamedTuple):
     name: str
     path: str
     how: str
-    has_status: bool
+    is_command: bool
 
     def __str__(self):
         return f"{self.kind} {self.name}"
@@ -44,11 +46,12 @@ class Listing(NamedTuple):
 
     @property
     def command(self):
-        return Lister("command", self.name, str(ROOT / "target/host" / self.name), "rt staticlib ghanveltri && host/build", True)
+        return Lister("command", self.name, str(ROOT / "target/host" / self.name), HOW, True)
 
     @property
     def program(self):
-        return Lister("Rattle program", self.name, str(ROOT / "target/bin" / self.name), f"rt check {self.name}", False)
+        built = ROOT / "crates" / self.name / "out" / self.name
+        return Lister("Rattle program", self.name, str(built), f"(cd crates/{self.name} && rt run < stdin)", False)
 
     @property
     def both(self):
@@ -118,9 +121,18 @@ def run(lister, *words, data=b"", source=None, to=subprocess.PIPE, prepare=None,
     return Run(done.returncode, done.stderr, done.stdout or b"")
 
 
-def told(what, reason):
-    """The line that tells of a failure, after the program's name; the reason is its text, or the system's number for it."""
-    return f"{what}: {reason if isinstance(reason, str) else os.strerror(reason)}\n".encode()
+class Told(NamedTuple):
+    """What is told of a failure: what failed, and the reason, which is its text or the system's number for it."""
+
+    what: str
+    reason: str | int
+
+    def line(self, lister):
+        """The line, after the program's name."""
+        if isinstance(self.reason, str):
+            return f"{self.what}: {self.reason}\n".encode()
+        number = "" if lister.is_command else f" (os error {self.reason})"
+        return f"{self.what}: {os.strerror(self.reason)}{number}\n".encode()
 
 
 def shown(text):
@@ -128,9 +140,8 @@ def shown(text):
 
 
 def hold(case, lister, run, status=LISTED, said=b"", output=b""):
-    """A run to its status, to what it says on standard error after its name, if anything, and to what it writes. A negative status is a
-    signal's."""
-    status = status if lister.has_status or status < 0 else LISTED
+    """A run to its status, to what it says on standard error after its name, if anything, and to what it writes."""
+    said = said.line(lister) if isinstance(said, Told) else said
     said = f"{lister.name}: ".encode() + said if said else b""
     name = f"{lister}, {case}"
     if run.said != said:

@@ -23,8 +23,10 @@ import verify_cases
 from verifying import ROOT, Wrong, contents, ended, language, parsed, sure, verdict
 
 LIMIT = 300  # seconds for a check
-LISTS = tuple(f"{folder}/{name}" for name in ("packing_list", "explain", "outline_list") for folder in ("host", "bin"))  # the programs that list
-BUILT = ("staticlib/libghanveltri.a", "host/libghanveltri.*", *LISTS, "must-fail/*/*/.log")  # of target
+LISTS = ("packing_list", "explain", "outline_list")
+# The programs that list.
+PROGRAMS = tuple(path for name in LISTS for path in (f"target/host/{name}", f"crates/{name}/out/{name}"))
+BUILT = ("crates/ghanveltri/out/libghanveltri.a", "target/host/libghanveltri.*", *PROGRAMS, "target/ci.log")
 RIGHT = ".right"  # after the name of a program, as it was built
 
 # What is held of the sources.
@@ -58,7 +60,8 @@ def shell_faults(path):
 
 def hold_sources():
     files = [str(path.relative_to(ROOT)) for part in ("host", "crates") for path in sorted(ROOT.glob(f"{part}/**/*")) if path.is_file()]
-    held = [(path, {"py": python_faults, "sh": shell_faults}.get(language(path))) for path in files if "__pycache__" not in path]
+    files = [path for path in files if not {"__pycache__", "out"} & {*path.split("/")}]
+    held = [(path, {"py": python_faults, "sh": shell_faults}.get(language(path))) for path in files]
     held = [(path, faults) for path, faults in held if faults]
     return verdict([fault for path, faults in held for fault in faults(path)], len(held), "scripts")
 
@@ -75,6 +78,13 @@ def swapped(text, old, new):
     """A text with one part for another, which is there once."""
     sure(text.count(old) == 1, f"{old!r} is there {text.count(old)} times")
     return text.replace(old, new)
+
+
+def line_of(path, words):
+    """The number of the line of a file that has these words, which are there once."""
+    before, *after = contents(path).split(words)
+    sure(len(after) == 1, f"{words!r} is in {path} {len(after)} times")
+    return 1 + before.count("\n")
 
 
 def swap(old, new):
@@ -104,6 +114,17 @@ def misspell(start):
     return written(change)
 
 
+def retold(says):
+    """A log in which rt says another thing of the edit that is broken here."""
+
+    def change(text):
+        lines = [line for line in text.splitlines() if line.startswith(ABOUT)]
+        sure(len(lines) == 1, f"{len(lines)} lines begin with {ABOUT!r}")
+        return text.replace(lines[0], ABOUT + says)
+
+    return written(change)
+
+
 def becomes(text):
     return lambda path: path.write_text(text)
 
@@ -124,7 +145,7 @@ def lists_by(script, old, new):
     """A program that lists as a script of the host works it out, with one part of the oracle for another."""
 
     def change(path):
-        host = path.parents[2] / "host"
+        host = next(above / "host" for above in path.parents if (above / "host/oracle.py").is_file())
         oracle = swapped((host / "oracle.py").read_text(), old, new)
         begin = f"#!{sys.executable} -B\nimport sys\nsys.path.insert(0, {str(host)!r})\nimport oracle\nexec({oracle!r}, vars(oracle))\n"
         path.write_text(f"{begin}import {script}\nsys.stdout.buffer.write({script}.output(sys.stdin.buffer.read()))\n")
@@ -167,8 +188,10 @@ THE_SAME = {"functions_agree_sanitized"}  # as functions_agree, built otherwise
 OUTSIDE = {name: "none" for name in ("GV_ARCHIVE", "GV_PACKING_LIST", "GV_SEED", "PYTHONPATH", "CPATH", "ASAN_OPTIONS")}
 OUTSIDE |= {"PYTHONOPTIMIZE": "1"}
 # The gate with a toolchain that proves nothing, and one test: no variable from outside has come to it.
+ALL_WELL = "rt: ok; handles allowed: none; must-fail edits: 1 refused; every proof was done in this run"
 GATE = {
-    "gate/bin/rt": "#!/bin/sh\n[ \"$1\" != ci ] || echo '1 passed, 0 failed'\n",
+    "gate/bin/rt": f"#!/bin/sh\n[ \"$1\" != ci ] || printf '%s\\n' '{ALL_WELL}' '1 passed, 0 failed'\n",
+    "gate/crates/ghanveltri/src/lib.rt": "",
     "gate/host/build": "#!/bin/sh\n",
     "gate/host/tests/one": f"#!/bin/sh\nenv | grep -E '^({'|'.join(OUTSIDE)})=' && exit 1\nexit 0\n",
 }
@@ -192,13 +215,16 @@ FIRST = "| claim | kind | where |\n|---|---|---|---|\n| D1a |"  # after the firs
 THEOREMS, CASES, BOUNDED = "crates/number/proofs/Theorems.antt", "crates/bounded/proofs/Cases.antt", "crates/bounded/specs/Bounded.antt"
 TREE, TREES, LINES = "crates/tree/specs/Tree.antt", "crates/tree/proofs/Cases.antt", "crates/line/proofs/Cases.antt"
 HEADINGS = "crates/outline/specs/Outline.antt"
-EDIT = "accepted_has_a_place"
-SHAM, LOG = f"crates/refusal/must-fail/{EDIT}.edit", f"target/must-fail/refusal/{EDIT}/.log"
+EDIT, REFUSED = "accepted_has_a_place", "refused, as it must be"  # of the crate `refusal`
+ABOUT = f"rt: must-fail refusal/{EDIT}.edit: "
+ANOTHER = "./proofs/Answer/value/Answers.antt:1:1: error: `returns`: the two types differ"
+OF_VERDICT = line_of("crates/refusal/src/lib.rt", "why.number()")  # a line of Verdict::refusal
+IN_CODE = f"note: src/lib.rt:{OF_VERDICT}:9: it is not proved that it holds (`returns`)"
+SHAM, LOG = f"crates/refusal/must-fail/{EDIT}.edit", "target/ci.log"
 HEADER, ARCHIVE, README = "include/ghanveltri.h", "target/host/libghanveltri.a", "README.md"
 PAGE, LIST_PAGE, EXAMPLE = "host/man/ghanveltri.3", "host/man/packing_list.1", "host/example.c"
-COMMAND, PROGRAM = "target/host/packing_list", "target/bin/packing_list"
-EXPLAIN, EXPLAIN_PROGRAM, EXPLAIN_PAGE, EXPLAINING = "target/host/explain", "target/bin/explain", "host/man/explain.1", "host/explaining.py"
-OUTLINE, OUTLINE_PROGRAM, OUTLINE_PAGE = "target/host/outline_list", "target/bin/outline_list", "host/man/outline_list.1"
+COMMAND, PROGRAM, EXPLAIN, EXPLAIN_PROGRAM, OUTLINE, OUTLINE_PROGRAM = PROGRAMS
+EXPLAIN_PAGE, EXPLAINING, OUTLINE_PAGE = "host/man/explain.1", "host/explaining.py", "host/man/outline_list.1"
 CHANGES, BEFORE = "changes(beats, own.after)", "form_of(t, s, (number_of(t, s, beats) - 1) % forms(t, s))"  # of the oracle; and the form before
 PRINTED, FROM_RIGHT = "in numbers_of(beats)", "in numbers_of([1 - beat for beat in beats[::-1]])"  # of the oracle
 LOOK, LOOKUP, STREAM = "| `lookup` | `look` |", "crates/lookup/src/lib.rt", "crates/stream/src/lib.rt"
@@ -324,11 +350,16 @@ BREAKS = {
         Break("a new `requires`", STREAM, swap("Front\n    ensures", "Front\n    requires { none }\n    ensures"), ("at_front of stream",)),
     ],
     "edits_are_listed": [
-        Break("no logs", "target/must-fail", gone, ("target/must-fail", "rt must-fail", "rt ci")),
-        Break("a log gone", LOG, gone, (EDIT, "no log")),
-        Break("an empty log", LOG, becomes(""), (EDIT, "nothing that can be read")),
-        Break("a log without the need", LOG, becomes("has no `Need-returns` that can be named from here"), (EDIT, "the shape")),
-        Break("a log without the call", LOG, becomes("record `After-next` has no field `previous`"), (EDIT, "the shape")),
+        Break("no log", LOG, gone, (LOG, "rt must-fail", "rt ci")),
+        Break("an edit that is not tried", LOG, drop(ABOUT), (EDIT, "nothing, by the log")),
+        Break("a refusal without a fact", LOG, retold(f"{REFUSED}: what"), (EDIT, "nothing that can be read")),
+        Break("a refusal of another need", LOG, retold(f"{REFUSED}: {ANOTHER}"), (EDIT, "`Answer::value`: `returns`")),
+        Break("a refusal in the code", LOG, retold(f"{REFUSED}: {IN_CODE}"), (EDIT, "`Verdict::refusal`: `returns`")),
+        Break("one cut short", LOG, retold(f"{REFUSED}: {IN_CODE[:-4]}"), (EDIT, "`Verdict::refusal`: `retur..")),
+        Break("a refusal for names alone", LOG, retold(f"{REFUSED} (only because"), (EDIT, "only because")),
+        Break("a refusal by a limit", LOG, retold(f"{REFUSED} (only by a limit"), (EDIT, "only by a limit")),
+        Break("a bad edit", LOG, retold("BAD EDIT: why"), (EDIT, "BAD EDIT")),
+        Break("an edit that is proved", LOG, retold("NOT REFUSED: why"), (EDIT, "NOT REFUSED")),
         Break("a sham deleted", SHAMS, drop("| P6b "), (SHAMS, "P6b")),
         Break("another count", SHAMS, swap(" wrong programs in ", "0 wrong programs in "), (SHAMS, "it says")),
         Break("another fact", SHAM, swap("`accepted-place`.", "`accepted`."), (EDIT, "`accepted-place`, and it says")),
@@ -380,7 +411,7 @@ BREAKS = {
         Break("fewer calls inside each other", HEADER, swap("at most 65 calls", "at most 33 calls"), ("nothing holds the 33", "'at most 65 calls")),
         Break("less stack said", HEADER, swap("up to 8 KB", "up to 6 KB"), ("bytes of stack, and the header says 6000",)),
         Break("numbers moved the other way", HEADER, swap("(n + N - 1) % N", "(n + 1) % N"), ("(n + N - 1) % N here",)),
-        Break("the archive gone", ARCHIVE, gone, ("rt staticlib ghanveltri",)),
+        Break("the archive gone", ARCHIVE, gone, ("(cd crates/ghanveltri && rt lib)",)),
     ],
     "manual_agrees": [
         Break("a function gone from the page", PAGE, drop('.BI "uint64_t gv_version('), ("gv_version",)),
@@ -441,7 +472,7 @@ BREAKS = {
     "explain_agrees": [
         Break("a line lost", EXPLAIN, becomes(LESS), ("examples", "line 2")),
         Break("a line lost by the Rattle program", EXPLAIN_PROGRAM, becomes(LESS), ("examples", "line 2"), OPTIMIZED),
-        Break("no Rattle program", EXPLAIN_PROGRAM, gone, (EXPLAIN_PROGRAM, "rt check explain")),
+        Break("no Rattle program", EXPLAIN_PROGRAM, gone, (EXPLAIN_PROGRAM, "cd crates/explain && rt run")),
         Break("case 4 where both shifts agree", EXPLAIN, explains_by("if k + 1 <=", "if beats[k:][:1] == [0] and k + 1 <="), ("line 2", "got b'4 2")),
         Break("case 2 for one form", EXPLAIN_PROGRAM, explains_by("forms(t, s) == 1", "s == 0"), ("b'1 - - -' is right, got b'2 - 1 -'",)),
         Break("the found 1 counted from 1", EXPLAIN, explains_by("[k - 1 for k in own.found]", "own.found"), ("line 2", "got b'3 3 3 1 2'")),
@@ -459,7 +490,7 @@ BREAKS = {
     "outline_list_agrees": [
         Break("a line lost", OUTLINE, becomes(LESS), ("examples", "line 2")),
         Break("a line lost by the Rattle program", OUTLINE_PROGRAM, becomes(LESS), ("examples", "line 2"), OPTIMIZED),
-        Break("no Rattle program", OUTLINE_PROGRAM, gone, (OUTLINE_PROGRAM, "rt check outline_list")),
+        Break("no Rattle program", OUTLINE_PROGRAM, gone, (OUTLINE_PROGRAM, "cd crates/outline_list && rt run")),
         Break("no empty lines", OUTLINE, becomes(NOT_APART), ("examples", "line 1,", "b'' is right, got b'1'")),
         Break("sisters numbered on", OUTLINE, outlines_by("(*parent, below[parent])", "(*parent, below[parent] + len(parent))"), ("got b'1.2'",)),
         Break("another refusal", OUTLINE_PROGRAM, outlines_by("Why(14)", "Why(12)"), ("b'refused 14 0 0' is right, got b'refused 12 0 0'",)),
@@ -505,6 +536,8 @@ BREAKS = {
         Break("the project's variables let in", "gate/.ci/run", swap("GV_* | ", ""), ("GV_ARCHIVE", "GV_PACKING_LIST", "GV_SEED"), OUTSIDE),
         Break("Python's variables let in", "gate/.ci/run", swap("PYTHON* | ", ""), ("PYTHONOPTIMIZE",), OUTSIDE),
         Break("a crate not proved", "gate/bin/rt", swap("1 passed, 0 failed", "1 passed, 1 failed"), ("1 passed, 1 failed",)),
+        Break("a bad edit", "gate/bin/rt", swap("1 refused;", "1 refused, 1 bad;"), ("1 bad;", "edit is bad")),
+        Break("a toolchain that fails", "gate/bin/rt", swap("0 failed'", "0 failed'; exit 1"), ("1 passed, 0 failed",)),
         Break("a test that fails", "gate/host/tests/one", becomes("#!/bin/sh\necho broken\nexit 1\n"), ("broken",)),
     ],
 }
@@ -516,12 +549,12 @@ BREAKS = {
 def copied(folder):
     """The tree without what is built, what the checks need of that, and the gate with nothing to prove."""
     copy = folder / "tree"
-    shutil.copytree(ROOT, copy, ignore=shutil.ignore_patterns("target", ".git", "__pycache__"))
-    for path in (path for pattern in BUILT for path in ROOT.glob(f"target/{pattern}")):
+    shutil.copytree(ROOT, copy, ignore=shutil.ignore_patterns("target", "out", ".git", "__pycache__"))
+    for path in (path for pattern in BUILT for path in ROOT.glob(pattern)):
         to = copy / path.relative_to(ROOT)
         to.parent.mkdir(parents=True, exist_ok=True)
         shutil.copy2(path, to)
-        if str(path.relative_to(ROOT / "target")) in LISTS:
+        if str(path.relative_to(ROOT)) in PROGRAMS:
             shutil.copy2(path, f"{to}{RIGHT}")
     for name, text in GATE.items():
         (copy / name).parent.mkdir(parents=True, exist_ok=True)

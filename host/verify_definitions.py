@@ -22,7 +22,7 @@ PUBLIC = re.compile(r"^(?!pub (?:mod|use) )(?:\S.* )?pub .*(?:\n +.*)*", re.M)
 TYPE = re.compile(r"pub (?:record|data) (\S+) ((?:.|\n)*?) where(?: |\n|$)(?:.|\n)*")
 FUNCTION = re.compile(r"(?:abbrev |unfoldable )?pub (?!record |data )(\S+) (:(?: .*)?(?:\n +.*)*)")
 THEOREM = re.compile(r"^( {,2})(?:pub )?(?!abbrev |unfoldable |record |data |use |mod )(\S+) (:(?: .*)?(?:\n\1 +.*)*)", re.M)
-USE = re.compile(r"^use Rattle·(\w+)(?:·\w+)?((?:\.\w+)+)(?: as (\w+)|\.\{([^}]*)\})", re.M)
+USE = re.compile(r"^use Rattle\.(\w+)((?:\.\w+)+)(?: as (\w+)|\.\{([^}]*)\})", re.M)
 EXAMPLE = re.compile(r"crates/\w+/(?:proofs/.*\.antt|stdout)")
 
 

@@ -20,7 +20,7 @@ import injected
 import packing
 import records
 from listing import LIMIT, LISTED, LISTINGS, NOT_READ, NOT_WRITTEN, READING, WRITING, WRONG_CALL
-from listing import Difference, Input, Run, hold, missing, run, told
+from listing import Difference, Input, Run, Told, hold, missing, run
 from verifying import ROOT
 
 SAMPLE = (ROOT / "crates/packing_list/stdin").read_bytes()
@@ -63,7 +63,7 @@ def full_device(listing):
         for data in (SAMPLE, LONG):
             with open("/dev/full", "wb") as full:
                 done = run(lister, data=data, to=full)
-            yield hold("a full device", lister, done, NOT_WRITTEN, told(WRITING, errno.ENOSPC))
+            yield hold("a full device", lister, done, NOT_WRITTEN, Told(WRITING, errno.ENOSPC))
 
 
 def closed_descriptors(listing):
@@ -72,14 +72,14 @@ def closed_descriptors(listing):
         for closed in SETS:
             done = run(lister, data=SAMPLE, prepare=closing(closed))
             if 0 in closed:
-                right = (NOT_READ, told(READING, errno.EBADF), b"")
+                right = (NOT_READ, Told(READING, errno.EBADF), b"")
             elif 1 in closed:
-                right = (NOT_WRITTEN, told(WRITING, errno.EBADF), b"")
+                right = (NOT_WRITTEN, Told(WRITING, errno.EBADF), b"")
             else:
                 right = (LISTED, b"", listing.output(SAMPLE))
             yield hold(f"closed {closed}", lister, done, right[0], unless_closed(closed, right[1]), right[2])
     done = run(listing.command, prepare=closing({1}))
-    yield hold("closed output for an empty list", listing.command, done, NOT_WRITTEN, told(WRITING, errno.EBADF))
+    yield hold("closed output for an empty list", listing.command, done, NOT_WRITTEN, Told(WRITING, errno.EBADF))
 
 
 def one_way_descriptors(listing):
@@ -87,9 +87,9 @@ def one_way_descriptors(listing):
     for lister in listing.both:
         with open(os.devnull, "wb") as out, open(os.devnull, "rb") as into:
             done = run(lister, source=out)
-            yield hold("an input for writing", lister, done, NOT_READ, told(READING, errno.EBADF))
+            yield hold("an input for writing", lister, done, NOT_READ, Told(READING, errno.EBADF))
             done = run(lister, data=SAMPLE, to=into)
-            yield hold("an output for reading", lister, done, NOT_WRITTEN, told(WRITING, errno.EBADF))
+            yield hold("an output for reading", lister, done, NOT_WRITTEN, Told(WRITING, errno.EBADF))
 
 
 @contextlib.contextmanager
@@ -104,8 +104,8 @@ def opened(folder):
 def directory(listing):
     for lister in listing.both:
         with opened(ROOT) as folder:
-            yield hold("a directory", lister, run(lister, source=folder), NOT_READ, told(READING, errno.EISDIR))
-    yield hold("a directory by name", listing.command, run(listing.command, "host"), NOT_READ, told("cannot read host", errno.EISDIR))
+            yield hold("a directory", lister, run(lister, source=folder), NOT_READ, Told(READING, errno.EISDIR))
+    yield hold("a directory by name", listing.command, run(listing.command, "host"), NOT_READ, Told("cannot read host", errno.EISDIR))
 
 
 @contextlib.contextmanager
@@ -130,7 +130,7 @@ def input_not_ready(listing):
             with not_ready(data) as pipe:
                 done = run(lister, source=pipe)
             listed = Input(listing, data).listed(len(data))
-            yield hold(f"not ready after {len(data)} bytes", lister, done, NOT_READ, told(READING, errno.EAGAIN), listed)
+            yield hold(f"not ready after {len(data)} bytes", lister, done, NOT_READ, Told(READING, errno.EAGAIN), listed)
         too_long = SAMPLE + (1021).to_bytes(2, "little")
         with not_ready(too_long) as pipe:
             done = run(lister, source=pipe)
@@ -147,7 +147,7 @@ def output_not_ready(listing):
         with open(reader, "rb") as pipe:
             taken = pipe.read()
         right = listing.output(LONG)[: len(taken)]
-        yield hold("an output not ready", lister, Run(done.status, done.said, taken), NOT_WRITTEN, told(WRITING, errno.EAGAIN), right)
+        yield hold("an output not ready", lister, Run(done.status, done.said, taken), NOT_WRITTEN, Told(WRITING, errno.EAGAIN), right)
 
 
 def reader_gone(lister, prepare=None):
@@ -174,18 +174,12 @@ def reader_leaving(lister, prepare=None):
 
 
 def reader_leaves(listing):
-    """The command tells it. The Rattle program is ended by the signal, as it leaves signals as they are; where the signal is ignored it
-    tells it as well."""
-    line = told(WRITING, errno.EPIPE)
-    for leave in (reader_gone, reader_leaving):
-        for lister, prepare, status, said in (
-            (listing.command, None, NOT_WRITTEN, line),
-            (listing.command, ignoring(signal.SIGPIPE), NOT_WRITTEN, line),
-            (listing.program, None, -signal.SIGPIPE, b""),
-            (listing.program, ignoring(signal.SIGPIPE), NOT_WRITTEN, line),
-        ):
+    """It is told, whether the program begins with the signal ignored or not: none is ended by it."""
+    for leave, lister in itertools.product((reader_gone, reader_leaving), listing.both):
+        for prepare in (None, ignoring(signal.SIGPIPE)):
             done = leave(lister, prepare)
-            yield hold(leave.__name__, lister, done, status, said, listing.output(LONG)[: len(done.output)])
+            right = (NOT_WRITTEN, Told(WRITING, errno.EPIPE), listing.output(LONG)[: len(done.output)])
+            yield hold(leave.__name__, lister, done, *right)
 
 
 def limit_of_size(listing):
@@ -195,14 +189,14 @@ def limit_of_size(listing):
 
             def prepare():
                 resource.setrlimit(resource.RLIMIT_FSIZE, (room, room))
-                if not lister.has_status:
+                if not lister.is_command:
                     ignoring(signal.SIGXFSZ)()
 
             with tempfile.TemporaryFile() as file:
                 done = run(lister, data=LONG, to=file, prepare=prepare)
                 file.seek(0)
                 done = Run(done.status, done.said, file.read())
-            yield hold(f"room for {room}", lister, done, NOT_WRITTEN, told(WRITING, errno.EFBIG), listing.output(LONG)[:room])
+            yield hold(f"room for {room}", lister, done, NOT_WRITTEN, Told(WRITING, errno.EFBIG), listing.output(LONG)[:room])
 
 
 def named_file(listing):
@@ -214,7 +208,7 @@ def named_file(listing):
                 left = pathlib.Path(name).read_bytes()
             case = f"a file of {len(data)} bytes, closed {closed}"
             if 1 in closed:
-                yield hold(case, listing.command, done, NOT_WRITTEN, unless_closed(closed, told(WRITING, errno.EBADF)))
+                yield hold(case, listing.command, done, NOT_WRITTEN, unless_closed(closed, Told(WRITING, errno.EBADF)))
             else:
                 yield hold(case, listing.command, done, LISTED, b"", listing.output(data))
             if left != data:
@@ -235,7 +229,7 @@ def no_such_file(listing):
         ("x/" * 2047 + "y", "x/" * 2047 + "y"),
         ("y" * 100_000, "y" * LONGEST_NAME),
     ):
-        line = told(f"cannot open {shown}", reason(name))
+        line = Told(f"cannot open {shown}", reason(name))
         yield hold(f"no file {name[:40]!r}", listing.command, run(listing.command, name), NOT_READ, line)
 
 
@@ -256,7 +250,7 @@ def no_permission(listing):
         if os.geteuid() == 0:
             yield hold("a file without permission", listing.command, done, LISTED, b"", listing.output(SAMPLE))
         else:
-            yield hold("a file without permission", listing.command, done, NOT_READ, told(f"cannot open {name}", errno.EACCES))
+            yield hold("a file without permission", listing.command, done, NOT_READ, Told(f"cannot open {name}", errno.EACCES))
 
 
 def wrong_calls(listing):
@@ -281,9 +275,9 @@ def texts(listing):
             raise Difference(f"{listing.command}: --help does not say {word!r}")
     for word in ("--help", "--version"):
         with open("/dev/full", "wb") as full:
-            yield hold(word, listing.command, run(listing.command, word, to=full), NOT_WRITTEN, told(WRITING, errno.ENOSPC))
+            yield hold(word, listing.command, run(listing.command, word, to=full), NOT_WRITTEN, Told(WRITING, errno.ENOSPC))
         done = run(listing.command, word, prepare=closing({1}))
-        yield hold(word, listing.command, done, NOT_WRITTEN, told(WRITING, errno.EBADF))
+        yield hold(word, listing.command, done, NOT_WRITTEN, Told(WRITING, errno.EBADF))
 
 
 PARTS = (

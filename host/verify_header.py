@@ -1,12 +1,12 @@
 #!/usr/bin/env python3
 """Holds include/ghanveltri.h to the library.
 
-The header alone compiles as C99 and as C++11. Each function that crates/ghanveltri exports, and the one that
-host/refusal_text.c defines, stands in the header with the same parameters, in the same order, under the same names and
-in the same widths, and it stands in the archive; neither has another. A slice is a pointer and then its length, which is
+The header alone compiles as C99 and as C++11. Each function gv_* that crates/ghanveltri exports, or that the C of the
+library defines, stands in the header with the same parameters, in the same order, under the same names and in the same
+widths, and it stands in the archive; neither has another. A slice is a pointer and then its length, which is
 called room for a text. The constants have the values of the crates. Every refusal has a text of its own. Every number in a comment is computed
 here, or listed with what holds it, and every mark is a claim. The archive brings no other name and no memory that can
-be written, and it needs nothing but the C library's memory functions, its read, write and open, and errno.
+be written, and it needs nothing but the C library's memory functions, its read and write, and errno.
 
 Prints each fault, and ends with status 1 if there is one.
 """
@@ -24,7 +24,7 @@ from listing import LISTED, NOT_READ, NOT_WRITTEN
 from verifying import ROOT, verdict
 
 CRATES = ROOT / "crates"
-IN_C = ROOT / "host/refusal_text.c"
+BUILD = ROOT / "host/build"  # its line joined=(..) has the C of the library
 SAMPLE = CRATES / "packing_list/stdin"
 
 STRICT = ("-pedantic", "-Wall", "-Wextra", "-Werror")
@@ -33,11 +33,11 @@ LANGUAGES = {
     "C++11": ("g++", "-x", "c++", "-std=c++11", *STRICT),
 }
 INCLUDES = {"stddef.h", "stdint.h"}
-BORROWED = {"memcpy", "memmove", "memset", "memcmp", "bcmp", "read", "write", "open", "__errno_location"}
+BORROWED = {"memcpy", "memmove", "memset", "memcmp", "bcmp", "read", "write", "__errno_location"}
 LENGTHS = {"text": "room"}  # of slices, where they are not called length
 UNKNOWN = "unknown refusal"
 
-EXPORT = re.compile(r'#\[no_mangle\]\s*pub extern "C" fn (\w+)\s*\(([^)]*)\)(?:\s*->\s*(\w+))?')
+EXPORT = re.compile(r'#\[unsafe\(no_mangle\)\]\s*pub extern "C" fn (\w+)\s*\(([^)]*)\)(?:\s*->\s*(\w+))?')
 SYMBOL = re.compile(r"^[0-9a-f ]{16} (\w) (.+)$", re.M)
 COMMENT = re.compile(r"/\*.*?\*/|//[^\n]*", re.S)
 MARK = re.compile(r"\[([A-Z]+\d+[a-z]?)\]")
@@ -140,6 +140,8 @@ def exported():
         if len(found) != text.count("no_mangle"):
             raise SystemExit(f"{path.relative_to(ROOT)}: an exported function is not understood")
         for name, parameters, result in found:
+            if not name.startswith("gv_"):
+                continue  # the C of the library calls it, and it is hidden in the archive
             each = [map(str.strip, part.split(":", 1)) for part in parameters.split(",") if part.strip()]
             answer = in_c("", result)[0][0] if result else "void"
             functions[name] = prototype(name, answer, [c for own, kind in each for c in in_c(own, kind)])
@@ -148,7 +150,12 @@ def exported():
 
 def defined_in_c():
     """The functions that are C."""
-    return prototypes(output("gcc", "-E", "-P", "-std=c99", f"-I{HEADER.parent}", IN_C), "{")
+    joined = re.findall(r"^joined=\((.*)\)$", BUILD.read_text(), re.M)
+    if len(joined) != 1:
+        raise SystemExit("host/build does not say the C of the library in one line joined=(..)")
+    sources = [ROOT / f"host/{name}.c" for name in joined[0].split()]
+    texts = [output("gcc", "-E", "-P", "-std=c99", f"-I{HEADER.parent}", source) for source in sources]
+    return {name: own for text in texts for name, own in prototypes(text, "{").items()}
 
 
 def longest_outline(largest):
@@ -173,7 +180,7 @@ def constants_of_crates():
         "GV_MAX_BEATS": 2 * largest,
         "GV_MAX_STEPS": number_in("circle/src/lib.rt", r"pub const LONGEST_RUN: u64 = ([\d_]+);"),
         "GV_LONGEST_OUTLINE": longest_outline(largest),
-        "GV_NO_PLACE": number_in("reason/specs/Explanation.antt", r"\nnoPlace = (\d+)\n"),
+        "GV_NO_PLACE": number_in("reason/specs/Explanation.antt", r"\nno_place = (\d+)\n"),
         "GV_VERSION": version,
         "GV_VERSION_MAJOR": version // 1000000,
         "GV_VERSION_MINOR": version // 1000 % 1000,

@@ -23,7 +23,7 @@ def is_there(listed, own):
     name, *arguments = listed.split(" ")
     if name.endswith(".."):
         return sum(1 for other in own if other.startswith(name[:-2])) > 1
-    return name in own or (len(arguments) == 2 and f"_{arguments[0]}_" in own)
+    return name in own or (len(arguments) == 2 and f"◌{arguments[0]}◌" in own)
 
 
 def faults(path):

@@ -8,23 +8,15 @@ module is, or the module above lends its name on by `pub use`.
 import re
 import sys
 
-from verifying import ROOT, code, ended, tables, verdict
+from verifying import END, FUNCTION, ROOT, TYPE, code, ended, module_of, tables, verdict
 
 REQUIRES = "docs/REQUIRES.md"
 HEADER = ("crate", "function", "public or private", "it requires", "why")
 KINDS = ("public", "private")
 NAME = re.compile(r"`\w+(?:::\w+)*`")
-TYPE = r"^impl (?P<type>\w+) \{"
-END = r"^(?P<end>\})"
-FUNCTION = r"^ *(?P<pub>pub )?(?:extern \"C\" )?fn (?P<name>\w+)"
 CONTRACT = r"\brequires\b(?P<rest>.*)"
+CLAUSE = re.compile(r" (?:\w+ )?\{")  # a clause may have a name
 LINE = re.compile("|".join((TYPE, END, FUNCTION, CONTRACT)), re.M)
-
-
-def module_of(path):
-    """The crate of a source file, and the names of its module from there on: none for lib.rt and main.rt."""
-    _, crate, _, *parts = path.removesuffix(".rt").split("/")
-    return crate, [] if parts in (["lib"], ["main"]) else parts
 
 
 def source(crate, module):
@@ -46,15 +38,16 @@ def is_public(crate, module, name):
 
 def functions(path):
     """The functions of a file that have a `requires`, each with whether it is public; and what is not understood."""
-    crate, module = module_of(path)
-    found, odd, owner, function = {}, [], None, None
+    _, crate, _, below = path.split("/", 3)
+    module = module_of(below)
+    found, odd, owner, of_trait, function = {}, [], None, None, None
     for match in LINE.finditer(code(path)):
         if match["type"] or match["end"]:
-            owner, function = match["type"], None
+            owner, of_trait, function = match["type"], match["trait"], None
         elif match["name"]:
             function = "::".join(name for name in (*module, owner, match["name"]) if name)
-            public = match["pub"] and is_public(crate, module, owner or match["name"])
-        elif function and match["rest"].startswith(" {"):
+            public = (match["pub"] or of_trait) and is_public(crate, module, owner or match["name"])
+        elif function and CLAUSE.match(match["rest"]):
             found[crate, function] = "public" if public else "private"
         else:
             odd.append(f"{path}: a `requires` that is not understood: {match.group()}")

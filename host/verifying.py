@@ -110,6 +110,31 @@ def defined(path):
     return names.union(*(re.findall(member, body, re.M) for body in re.findall(block, text, re.M)))
 
 
+# The functions of a source file.
+
+TYPE = r"^impl\b(?:<.*>)? (?P<trait>.* for )?(?P<type>\w+)\b.*\{$"
+END = r"^(?P<end>\})"
+FUNCTION = r"^ *(?P<pub>pub )?(?:unsafe )?(?:extern \"C\" )?fn (?P<name>\w+)"
+NAMED = re.compile("|".join((TYPE, END, FUNCTION)), re.M)
+
+
+def module_of(path):
+    """The names of a source file's module, by its path in src/: none for lib.rt and main.rt."""
+    parts = path.removesuffix(".rt").split("/")
+    return [] if parts in (["lib"], ["main"]) else parts
+
+
+def function_at(text, path, line):
+    """The function, by its module and type, that a line of a source file is in; its text, and its path in the crate."""
+    owner, function = None, None
+    for match in NAMED.finditer("\n".join(text.split("\n")[:line])):
+        if match["type"] or match["end"]:
+            owner = match["type"]
+        else:
+            function = "::".join(name for name in (*module_of(path.removeprefix("src/")), owner, match["name"]) if name)
+    return function
+
+
 # The head of a file of specs/ or proofs/, whose lines give names: host/verify_heads.py says how.
 
 LISTED = re.compile(r"--     (?=\S)(.*)")

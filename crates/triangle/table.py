@@ -13,6 +13,7 @@ import textwrap
 
 HERE = pathlib.Path(__file__).resolve().parent
 WIDTH = 120
+OF_CODE, SHORT = 99, 10  # as `rt fmt` lays out an array: the width of a line, and the longest entries that share one
 
 
 def largest():
@@ -51,40 +52,46 @@ def parts(rows):
     ]
 
 
+def entries(row):
+    """The entries of an array as lines: as many to a line as it holds where all are short, else each on its own."""
+    own = textwrap.wrap(" ".join(row), OF_CODE - 8) if all(len(entry) <= SHORT + 1 for entry in row) else row
+    return [f"        {line}" for line in own]
+
+
 def rattle(rows):
     out = ["// The counts N(t, s), a row for each t: the table, and the look-up that reads no table."]
     out += ["// Written by table.py from the largest count in specs/Count.antt; not edited by hand."]
-    out += ["ghost use mathlib.Core.Path.{_≡_};", "ghost use Prim.Native.Nat.{_≤_};", "ghost use lib.ListN.{getD};"]
-    out += ["ghost use Rattle·triangle·specs.specs.Count.{largest};"]
-    out += ["ghost use Rattle·triangle·specs.specs.Table.{table, at, low, middle, high};", ""]
+    out += ["ghost use Rattle.std.specs.Prelude.{◌≡◌, ◌≤◌, get_or};"]
+    out += ["ghost use Rattle.triangle.specs.Count.{largest};"]
+    out += ["ghost use Rattle.triangle.specs.Table.{table, at, low, middle, high};", ""]
     out += ["// The largest number of tasks that a schedule takes up.", f"pub const LARGEST: u64 = {LARGEST};", ""]
     out += ["// One row for each t from 0 to LARGEST, each row with LARGEST + 1 counts, zeros past s = t. [N6] [F2]"]
     out += [f"const FORMS: [[u64; {SIZE}]; {SIZE}] = ["]
     for row in rows:
-        out += ["    ["] + [f"        {n}," for n in row] + ["    ],"]
+        out += ["    ["] + entries([f"{n}," for n in row]) + ["    ],"]
     out += ["];", ""]
     out += ["// The table's own entry, and 0 outside the table. A const array is rebuilt wherever it is read, so this is slow. [N6]"]
-    out += ["fn listed(t: u64, s: u64) -> u64", "    ensures { λ r. ⌜ r ≡ at t s ⌝ }", "{"]
+    out += ["fn listed(t: u64, s: u64) -> u64", "    ensures { result ≡ at t s }", "{"]
     out += ["    if LARGEST < t {", "        return 0;", "    }", "    if LARGEST < s {", "        return 0;", "    }"]
     out += ["    FORMS[t as usize][s as usize]", "}", ""]
     out += ["// The whole table. [F2]"]
-    out += [f"pub fn rows() -> [[u64; {SIZE}]; {SIZE}]", "    ensures { λ r. ⌜ r ≡ table ⌝ }", "{", "    FORMS", "}", ""]
+    out += [f"pub fn rows() -> [[u64; {SIZE}]; {SIZE}]", "    ensures { result ≡ table }", "{", "    FORMS", "}", ""]
     for name, first, part in parts(rows):
         counts = [n for row in part for n in row]
         out += [f"// The entry at t, s, which stands at i among the counts with s up to t from row {first} on."]
-        out += [f"fn in_{name}(t: u64, s: u64, i: u64) -> u64", f"    requires {{ ⌜ at t s ≡ getD {name} i 0 ⌝ }}"]
-        out += [f"    ensures {{ λ r. ⌜ r ≡ getD {name} i 0 ⌝ }}", "{", "    match i {"]
+        out += [f"fn in_{name}(t: u64, s: u64, i: u64) -> u64", f"    requires {{ at t s ≡ get_or {name} i 0 }}"]
+        out += [f"    ensures {{ result ≡ get_or {name} i 0 }}", "{", "    match i {"]
         out += [f"        {i} => {n}," for i, n in enumerate(counts)]
         out += ["        _ => listed(t, s),", "    }", "}", ""]
     (_, middle, _), (_, high, _) = parts(rows)[1:]
     out += ["// The entry with s up to t, by matches whose arms are literals: one load from read-only memory."]
-    out += ["pub fn inside(t: u64, s: u64) -> u64", "    requires { ⌜ (t ≤ largest) × (s ≤ t) ⌝ }"]
-    out += ["    ensures { λ r. ⌜ r ≡ at t s ⌝ }", "{", "    let i = t * (t + 1) / 2 + s;"]
+    out += ["pub fn inside(t: u64, s: u64) -> u64", "    requires { (t ≤ largest) × (s ≤ t) }"]
+    out += ["    ensures { result ≡ at t s }", "{", "    let i = t * (t + 1) / 2 + s;"]
     out += [f"    if i < {start(middle)} {{", "        return in_low(t, s, i);", "    }"]
     out += [f"    if i < {start(high)} {{", f"        return in_middle(t, s, i - {start(middle)});", "    }"]
     out += [f"    in_high(t, s, i - {start(high)})", "}", ""]
     out += ["// The table's entry, and 0 outside the table and past s = t."]
-    out += ["pub fn entry(t: u64, s: u64) -> u64", "    ensures { λ r. ⌜ r ≡ at t s ⌝ }", "{"]
+    out += ["pub fn entry(t: u64, s: u64) -> u64", "    ensures { result ≡ at t s }", "{"]
     out += ["    if LARGEST < t {", "        return 0;", "    }", "    if t < s {", "        return 0;", "    }"]
     out += ["    inside(t, s)", "}"]
     return "\n".join(out) + "\n"
@@ -104,16 +111,16 @@ def broken(rows):
 def antt(rows):
     out = ["-- The table of counts as a list of rows: what the array of src/table.rt holds. Written by table.py; not edited by hand."]
     out += ["-- proofs/Rule.antt proves that its entries are N(t, s), so nothing here has to be believed. Definitions only."]
-    out += ["use mathlib.Core.List.{List, [], _∷_}", "use Prim.Native.Nat.{ℕ}", "use lib.ListN.{getD}", ""]
+    out += ["use Rattle.std.specs.Prelude.{List, [], ◌∷◌, ℕ, get_or}", ""]
     out += ["abbrev pub table : List (List ℕ)", "table ="]
     out += broken(["(" + " ∷ ".join(str(n) for n in row) + " ∷ []) ∷" for row in rows])
-    out += ["", "-- the entry in row t and column s, and 0 outside the table", "abbrev pub at : ℕ → ℕ → ℕ", "at t s = getD (getD table t []) s 0"]
+    out += ["", "-- the entry in row t and column s, and 0 outside the table", "abbrev pub at : ℕ → ℕ → ℕ", "at t s = get_or (get_or table t []) s 0"]
     out += ["", "-- the counts with s up to t, row after row: what the look-up's three parts hold"]
     for name, _, part in parts(rows):
         out += ["", f"abbrev pub {name} : List ℕ", f"{name} ="]
         out += broken([" ∷ ".join(str(n) for n in row) + " ∷" for row in part])
     for name, first, _ in parts(rows)[1:]:
-        out += ["", f"-- the row that {name} starts with", f"abbrev pub {name}Row : ℕ", f"{name}Row = {first}"]
+        out += ["", f"-- the row that {name} starts with", f"abbrev pub {name}_row : ℕ", f"{name}_row = {first}"]
     return "\n".join(out) + "\n"
 
 
