@@ -242,7 +242,8 @@ advance-levels q a o =
     two = two-forms (suc q) q (omega arith)
 
     by : (a : List ℕ) → plays 0 a ≡ true
-        → (rank_of (ups (suc (suc q)) (downs (suc q) (0 ∷ a))) ≡ suc (rank_of (ups (suc q) (downs (suc q) (1 ∷ 0 ∷ a)))))
+        → (rank_of (ups (suc (suc q)) (downs (suc q) (0 ∷ a))) ≡
+        suc (rank_of (ups (suc q) (downs (suc q) (1 ∷ 0 ∷ a)))))
         ⊎ ((rank_of (ups (suc (suc q)) (downs (suc q) (0 ∷ a))) ≡ 0)
         × (suc (rank_of (ups (suc q) (downs (suc q) (1 ∷ 0 ∷ a))))
         ≡ N (ones (ups (suc q) (downs (suc q) (1 ∷ 0 ∷ a)))) (zeros (ups (suc q) (downs (suc q) (1 ∷ 0 ∷ a))))))

@@ -89,7 +89,8 @@ module _ {t s : ℕ} (two : 2 ≤ t) (one : 1 ≤ s) where
           (ap next (flat-top (suc (suc a)) (suc d) p e)))
           (turn_two a d e f)
       by (swap a d z e f) =
-          simp (not-second t s (next b) (λ q. omega (arith, q, ap (λ (l : List ℕ). get_or l 1 0) f))) (swap-two a d z e f)
+          simp (not-second t s (next b) (λ q. omega (arith, q, ap (λ (l : List ℕ). get_or l 1 0) f)))
+          (swap-two a d z e f)
       by (dip a d z e f) =
           let top-form = top-schedule t s (schedule-le p) in
           simp (is-dip t s (next b) (ap (λ (l : List ℕ). get_or l 1 0) f)

@@ -65,11 +65,14 @@ module _ (t s : ℕ) (b : List ℕ) (k : ℕ) where
       → judge (run_rows t s b k) ≡ Verdict.Refused why
   run-refused {why} e = judge-refused (check_rows t s b) ((ltb most_steps k ⇒ RunTooLong) ∷ []) why e
 
-  pub run_long : checked t s b ≡ Verdict.Accepted → most_steps < k → judge (run_rows t s b k) ≡ Verdict.Refused RunTooLong
-  run_long e h = judge-accepted (check_rows t s b) ((ltb most_steps k ⇒ RunTooLong) ∷ []) e ∙ simp (lt-ltb most_steps k h)
+  pub run_long : checked t s b ≡ Verdict.Accepted → most_steps < k
+      → judge (run_rows t s b k) ≡ Verdict.Refused RunTooLong
+  run_long e h =
+      judge-accepted (check_rows t s b) ((ltb most_steps k ⇒ RunTooLong) ∷ []) e ∙ simp (lt-ltb most_steps k h)
 
   pub run-taken : checked t s b ≡ Verdict.Accepted → k ≤ most_steps → judge (run_rows t s b k) ≡ Verdict.Accepted
-  run-taken e h = judge-accepted (check_rows t s b) ((ltb most_steps k ⇒ RunTooLong) ∷ []) e ∙ simp (le-ltb most_steps k h)
+  run-taken e h =
+      judge-accepted (check_rows t s b) ((ltb most_steps k ⇒ RunTooLong) ∷ []) e ∙ simp (le-ltb most_steps k h)
 
   pub run-allowed : judge (run_rows t s b k) ≡ Verdict.Accepted → (checked t s b ≡ Verdict.Accepted) × (k ≤ most_steps)
   run-allowed e =

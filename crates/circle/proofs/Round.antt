@@ -149,7 +149,8 @@ module _ (t s : ℕ) {b : List ℕ} (p : Schedule (suc t) (suc s) b) where
       by : (other : Bool) → ltb 0 (changed x first) ≡ other → Memᴰ x (first ∷ dipping)
       by true e =
           Memᴰ.tail (mem-keep (is_dip (suc t) (suc s)) (ring (N (suc t) (suc s)) b) x (ring-complete p x q.form)
-          ((and-eq-true_iff (eqb (get_or x 1 0) 0) (ltb 0 (changed x first))).1 (eq-eqb (get_or x 1 0) 0 q.sets_down, e)))
+          ((and-eq-true_iff (eqb (get_or x 1 0) 0) (ltb 0 (changed x first))).1
+          (eq-eqb (get_or x 1 0) 0 q.sets_down, e)))
       by false e =
           Memᴰ.head
           (changed-same x first (q.form.size ∙ sym first-second.form.size)

@@ -73,7 +73,8 @@ dip-means t s c e =
           omega (arith, ltb-true 0 (changed c (next (top t s))) both.1, ap (changed c) (sym same), changed-self c),
     )
 
-pub means-dip : (t s : ℕ) (c : List ℕ) → length c ≡ length (next (top t s)) → get_or c 1 0 ≡ 0 → (c ≡ next (top t s) → ⊥)
+pub means-dip : (t s : ℕ) (c : List ℕ) → length c ≡ length (next (top t s)) → get_or c 1 0 ≡ 0
+    → (c ≡ next (top t s) → ⊥)
     → is_dip t s c ≡ true
 means-dip t s c n z e = is-dip t s c z n e
 

@@ -2,16 +2,17 @@
 -- as in Step.antt. Definitions only.
 --     unshift k b       the k-th prefix shift undone: the symbol at position 2 goes to k, and position 1 stays [V1]
 --     others b          b without the symbol at position 2
---     after_found b      the position after the found 1 of the others; the last one where they have no 01
---     before_found b     the position before it; the last one where they have no 01
+--     after_found b     the position after the found 1 of the others; the last one where they have no 01
+--     before_found b    the position before it; the last one where they have no 01
 --     fits b            the symbol at position 2 may go back to the position before it: that is a schedule
 --     previous b        the previous form: a 0 at position 2 goes back to the position after the found 1 of the others,
 --                       a 1 to the position before it or, where that is no schedule, to one position earlier; with no
 --                       zeros b stays [V1]
 --     Precedes t s c b  c is the one schedule of t, s whose next form is b [V2]
---     steps_back k b     b after k steps back [V10]
---     worked_back k b    the changed beats of k steps back from b, added up [V10]
-use Rattle.std.specs.Prelude.{Bool, cond, List, ◌∷◌, ◌++◌, ◌≡◌, ℕ, zero, suc, pred, ◌+◌, eqb, ltb, length, get_or, take, drop}
+--     steps_back k b    b after k steps back [V10]
+--     worked_back k b   the changed beats of k steps back from b, added up [V10]
+use Rattle.std.specs.Prelude.{Bool, cond, List, ◌∷◌, ◌++◌, ◌≡◌, ℕ, zero, suc, pred, ◌+◌, eqb, ltb, length, get_or, take}
+use Rattle.std.specs.Prelude.{drop}
 use Rattle.schedule.specs.Schedule.{ones, zeros, Schedule, is_schedule}
 use Rattle.circle.specs.Step.{found, has01, next}
 use Rattle.circle.specs.Walk.{changed}

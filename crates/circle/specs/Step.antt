@@ -4,11 +4,12 @@
 --     is01 b i        a 0 stands at place i (counted from 0) and a 1 after it
 --     found b         the position of the 1 of the leftmost 0 followed by 1; past the end where there is none
 --     has01 b         there is a 0 followed by 1
---     moves_next b     the position after the found 1 is inside, and the shift of it is a schedule
+--     moves_next b    the position after the found 1 is inside, and the shift of it is a schedule
 --     next b          the next form: that shift, or else the shift of the found 1; with no 01 the last symbol moves to
 --                     position 2 if there is a 0, and else b stays [D2a] [S2] [S3]
 --     top t s         t ones and then s zeros
-use Rattle.std.specs.Prelude.{Bool, cond, ◌&&◌, List, ◌∷◌, ◌++◌, ℕ, suc, pred, eqb, leb, ltb, length, get_or, take, drop, replicate}
+use Rattle.std.specs.Prelude.{Bool, cond, ◌&&◌, List, ◌∷◌, ◌++◌, ℕ, suc, pred, eqb, leb, ltb, length, get_or, take}
+use Rattle.std.specs.Prelude.{drop, replicate}
 use Rattle.bounded.specs.Bounded.{first}
 use Rattle.schedule.specs.Schedule.{ones, zeros, is_schedule}
 

@@ -2,7 +2,7 @@
 --     steps k b       b after k steps
 --     changed a b     at how many places a and b differ [S4]
 --     worked k b      the changed beats of k steps from b, added up
---     is_dip t s c     c sets down at its second beat, and is not the form after t ones and s zeros [D3e]
+--     is_dip t s c    c sets down at its second beat, and is not the form after t ones and s zeros [D3e]
 --     dips t s k b    how many of k steps from b arrive at such a form
 --     OneWay          exactly one number from 1 to N(t, s) of steps of a walk leads from a to b [D3b]
 use Rattle.std.specs.Prelude.{Bool, cond, ◌&&◌, List, [], ◌∷◌, ◌≡◌, ℕ, zero, suc, ◌+◌, ◌≤◌, eqb, ltb, get_or}

@@ -57,7 +57,8 @@ module _ (t s : ℕ) (b : List ℕ) where
       → checked t s c ≡ Verdict.Accepted
   again c e keeps = let right = accepted-schedule t s b e in schedule-accepted t s c right.0 (keeps right.1)
 
-  pub next-undone : (previous_answer t s (next_left t s b) ≡ next_answer t s b) × (previous_left t s (next_left t s b) ≡ b)
+  pub next-undone : (previous_answer t s (next_left t s b) ≡ next_answer t s b)
+      × (previous_left t s (next_left t s b) ≡ b)
   next-undone =
       undone (checked t s) next previous (λ c. changed c (next c)) (λ c. changed c (previous c)) b
       (λ e. let p = (accepted-schedule t s b e).1 in (
@@ -90,7 +91,8 @@ module _ (t s : ℕ) (b : List ℕ) where
         (λ e. (run-again (steps k b) e (steps-schedule k), back_on k (run-form e), worked-back-on k (run-form e)))
 
     pub run-back-undone :
-        (run_answer t s (run_back_left t s b k) k ≡ run_back_answer t s b k) × (run_left t s (run_back_left t s b k) k ≡ b)
+        (run_answer t s (run_back_left t s b k) k ≡ run_back_answer t s b k)
+        × (run_left t s (run_back_left t s b k) k ≡ b)
     run-back-undone =
         undone (λ c. judge (run_rows t s c k)) (steps_back k) (steps k) (worked_back k) (worked k) b
         (λ e. (run-again (steps_back k b) e (back-form k), on-back k (run-form e), worked-on-back k (run-form e)))

@@ -1,7 +1,7 @@
 -- What the step and the run back answer and leave, the manual, "The step back" and "Refusal numbers" (Order:
 -- schedules). The refusals are those of the step and of the run on, in their order. Definitions only.
---     previous_answer, previous_left     of one step back: the changed beats, and the previous form [V12]
---     run_back_answer, run_back_left       of a run of k steps back: the changed beats of them all, and the form k steps
+--     previous_answer, previous_left   of one step back: the changed beats, and the previous form [V12]
+--     run_back_answer, run_back_left   of a run of k steps back: the changed beats of them all, and the form k steps
 --                                      back [V12]
 use Rattle.std.specs.Prelude.{List, ℕ}
 use Rattle.refusal.specs.declared.Answer.{Answer}

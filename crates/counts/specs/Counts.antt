@@ -1,6 +1,6 @@
 -- The counts of a schedule, the manual, "How many forms" and "Refusal numbers" (Order: a count). Definitions only.
 --     Allowed       counts that a schedule may have: t up to the largest count, s up to t [A5]
---     count_rows     the refusals that a pair of counts can get, in their order [R10]
+--     count_rows    the refusals that a pair of counts can get, in their order [R10]
 --     counting      what a count of forms answers: N(t, s), or the refusal
 use Rattle.std.specs.Prelude.{List, [], ◌∷◌, ℕ, ◌≤◌, ltb}
 use Rattle.refusal.specs.declared.Answer.{Answer}

@@ -239,7 +239,8 @@ call-refused c m x (no-form-on-sheet {t} {s} {n} {sheet} {column} h) g =
 call-refused c m x (no-form-in-record {src} {out} {at} {by} k h) g =
     let rows = (read-facts (length out) src (sym (g.0.0 ∙ told-verdict _ _ _ _ _))).4 in
     let above : N (ups_at at src) (downs_at at src) ≤ value_of (body_at at src) =
-    subst (λ (j : Layout). N (ups_at (counts_at j) src) (downs_at (counts_at j) src) ≤ value_of (body_at (counts_at j) src)) k
+    subst (λ (j : Layout). N (ups_at (counts_at j) src) (downs_at (counts_at j) src) ≤ value_of
+    (body_at (counts_at j) src)) k
     h in
     omega (
       arith,
@@ -277,6 +278,7 @@ call-refused c m x (size-beaten {src} {out} {at} k d) g =
     let exact : long src ≡ at + bytes_for (ups_at at src + downs_at at src) =
     omega (arith, size, fit.exact, fit.reaches) in
     d
-    (subst (λ (j : Layout). long src ≡ at + bytes_for (ups_at (counts_at j) src + downs_at (counts_at j) src)) (sym k) exact)
+    (subst (λ (j : Layout). long src ≡ at + bytes_for (ups_at (counts_at j) src + downs_at (counts_at j) src)) (sym k)
+    exact)
 call-refused c m x (cut_record {src} {out} h) g =
     true≢false (sym h ∙ (read-facts (length out) src (sym (g.0.0 ∙ told-verdict _ _ _ _ _))).1)

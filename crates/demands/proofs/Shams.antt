@@ -244,7 +244,8 @@ module _ (v w : Verdict) (m k l : List ℕ) where
 
   pub write-fixed-record : (b c : List ℕ) → Gives (write 3 3 2 form-11100 (room 14)) v m (b ∷ l ∷ [])
       → Gives (write 3 3 2 form-10110 (room 14)) w k (c ∷ l ∷ []) → ⊥
-  unfolding N low_first every first_from ones zeros is_schedule shift found has01 moves_next rule.next walk.changed steps
+  unfolding N low_first every first_from ones zeros is_schedule shift found has01 moves_next rule.next walk.changed
+      steps
   write-fixed-record b c g h = let z : ◌≡◌ {A = ℕ} 4 0 = cc (g.1, h.1) in omega arith
 
 -- [P6a] the next form is the form that was given, and so no beat changes: after 11100 comes 10110, and two beats change

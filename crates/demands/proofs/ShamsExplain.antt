@@ -48,21 +48,26 @@ explain-fixed v w n m k x y g h = let z : ◌≡◌ {A = ℕ} 2 3 = cc (g.0.1, h
 
 module _ (v : Verdict) (m : List ℕ) (x : List (List ℕ)) where
   pub explain-found-moves : Gives (explain 3 2 form-10110) v (4 ∷ m) x → ⊥
-  unfolding N every first_from ones zeros is_schedule shift found has01 moves_next rule.next differing_from explanation_of
+  unfolding N every first_from ones zeros is_schedule shift found has01 moves_next rule.next differing_from
+      explanation_of
   explain-found-moves g = let z : ◌≡◌ {A = ℕ} 4 3 = cc g.0.1 in omega arith
 
   pub explain-from-one : Gives (explain 3 2 form-11100) v (2 ∷ 5 ∷ m) x → ⊥
-  unfolding N every first_from ones zeros is_schedule shift found has01 moves_next rule.next differing_from explanation_of
+  unfolding N every first_from ones zeros is_schedule shift found has01 moves_next rule.next differing_from
+      explanation_of
   explain-from-one g = let z : ◌≡◌ {A = ℕ} 5 4 = cc g.0.1 in omega arith
 
   pub explain-step-before : Gives (explain 3 2 form-10110) v (3 ∷ 2 ∷ 3 ∷ differing form-11100 form-10110) x → ⊥
-  unfolding N every first_from ones zeros is_schedule shift found has01 moves_next rule.next differing_from explanation_of
+  unfolding N every first_from ones zeros is_schedule shift found has01 moves_next rule.next differing_from
+      explanation_of
   explain-step-before g = let z : ◌≡◌ {A = ℕ} 3 2 = cc g.0.1 in omega arith
 
   pub explain-rightmost : Gives (explain 3 2 form-10101) v (4 ∷ 4 ∷ m) x → ⊥
-  unfolding N every first_from ones zeros is_schedule shift found has01 moves_next rule.next differing_from explanation_of
+  unfolding N every first_from ones zeros is_schedule shift found has01 moves_next rule.next differing_from
+      explanation_of
   explain-rightmost g = let z : ◌≡◌ {A = ℕ} 4 2 = cc g.0.1 in omega arith
 
   pub explain-one-form-moves : Gives (explain 1 1 form-10) v (2 ∷ m) x → ⊥
-  unfolding N every first_from ones zeros is_schedule shift found has01 moves_next rule.next differing_from explanation_of
+  unfolding N every first_from ones zeros is_schedule shift found has01 moves_next rule.next differing_from
+      explanation_of
   explain-one-form-moves g = let z : ◌≡◌ {A = ℕ} 2 1 = cc g.0.1 in omega arith

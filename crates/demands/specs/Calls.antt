@@ -3,8 +3,8 @@
 -- gv_version one number of one of them, by the same definition, and the functions that take a list of counts the same;
 -- the lines of the lists are `lists`'. Definitions only.
 --     Move            a step or a run of k steps, on or back
---     move_answer      the beats that a move changes, or its refusal
---     move_left        the schedule that it leaves
+--     move_answer     the beats that a move changes, or its refusal
+--     move_left       the schedule that it leaves
 --     Call            an entry point with its numbers and with what is lent to it; `changed` asks what a move would
 --                     change, and writes nothing
 --     lent            what is lent to a call, list by list

@@ -69,6 +69,7 @@ module _ (t s : ℕ) where
       let after = (m + k) % N t s in
       let below = mod-lt (m + k) (N-pos t s within.1) in
       ap (λ (b : List ℕ). run_left t s b k) (written m out e)
-      ∙ ap (λ (v : Verdict). left v (steps k (form_of t s m)) (form_of t s m)) (run-taken t s (form_of t s m) k accepted h)
+      ∙ ap (λ (v : Verdict). left v (steps k (form_of t s m)) (form_of t s m))
+      (run-taken t s (form_of t s m) k accepted h)
       ∙ walking-asking within.1 m k
       ∙ sym (written after out (form-accepted (within.0, within.1) after out below asked.1))

@@ -1,9 +1,9 @@
 -- The text of a line of the packing list, the manual, "The packing list": lists of ASCII codes. Definitions only.
 --     Beats b          every beat is 0 or 1
---     beat_text b       the beats run together as digits; - for the empty schedule
---     accepted_line     t, s, the number and the beats, separated by one space; a line feed ends the line
---     refused_text      the word refused, the refusal's number, its place and its surplus, separated so [Q6]
---     refused_line      that, and a line feed that ends the line
+--     beat_text b      the beats run together as digits; - for the empty schedule
+--     accepted_line    t, s, the number and the beats, separated by one space; a line feed ends the line
+--     refused_text     the word refused, the refusal's number, its place and its surplus, separated so [Q6]
+--     refused_line     that, and a line feed that ends the line
 use Rattle.std.specs.Prelude.{List, [], ◌∷◌, ◌++◌, map, ℕ, ◌+◌, ◌≤◌, ◌<◌, length, get_or}
 use Rattle.refusal.specs.declared.Refusal.{Refusal}
 use Rattle.refusal.specs.Refusal.{refusal_number, refusal_place, refusal_surplus}

@@ -49,21 +49,24 @@ use Rattle.lists.specs.Listed.{
 -- 3 2 1 11010, of a record of kind 1 that holds 2 [E4]
 first : line_of Which.Packing (12 ∷ 0 ∷ 1 ∷ 0 ∷ 3 ∷ 2 ∷ 2 ∷ 0 ∷ 0 ∷ 0 ∷ 0 ∷ 0 ∷ 0 ∷ 0 ∷ [])
     ≡ 51 ∷ 32 ∷ 50 ∷ 32 ∷ 49 ∷ 32 ∷ 49 ∷ 49 ∷ 48 ∷ 49 ∷ 48 ∷ 10 ∷ []
-unfolding value_of N digits decimal beat_text every first_from ones zeros is_schedule shift found has01 moves_next next steps
+unfolding value_of N digits decimal beat_text every first_from ones zeros is_schedule shift found has01 moves_next next
+    steps
     changed
 first = refl
 
 -- the same line, of the record of kind 3 that holds 1 [K4]
 first-listed : line_of Which.Packing (12 ∷ 0 ∷ 3 ∷ 0 ∷ 3 ∷ 2 ∷ 1 ∷ 0 ∷ 0 ∷ 0 ∷ 0 ∷ 0 ∷ 0 ∷ 0 ∷ [])
     ≡ 51 ∷ 32 ∷ 50 ∷ 32 ∷ 49 ∷ 32 ∷ 49 ∷ 49 ∷ 48 ∷ 49 ∷ 48 ∷ 10 ∷ []
-unfolding value_of N digits decimal beat_text every first_from ones zeros is_schedule shift found has01 moves_next next steps
+unfolding value_of N digits decimal beat_text every first_from ones zeros is_schedule shift found has01 moves_next next
+    steps
     changed
 first-listed = refl
 
 -- 3 2 2 10101 [E4]
 second : line_of Which.Packing (5 ∷ 0 ∷ 2 ∷ 0 ∷ 3 ∷ 2 ∷ 168 ∷ [])
     ≡ 51 ∷ 32 ∷ 50 ∷ 32 ∷ 50 ∷ 32 ∷ 49 ∷ 48 ∷ 49 ∷ 48 ∷ 49 ∷ 10 ∷ []
-unfolding value_of tabulate N digits decimal beat_text every first_from ones zeros is_schedule shift found has01 moves_next
+unfolding value_of tabulate N digits decimal beat_text every first_from ones zeros is_schedule shift found has01
+    moves_next
     next steps changed
 second = refl
 
@@ -82,13 +85,15 @@ one-missing = refl
 -- 1 1 0 10 [E4]
 fourth : line_of Which.Packing (12 ∷ 0 ∷ 1 ∷ 0 ∷ 1 ∷ 1 ∷ 0 ∷ 0 ∷ 0 ∷ 0 ∷ 0 ∷ 0 ∷ 0 ∷ 0 ∷ [])
     ≡ 49 ∷ 32 ∷ 49 ∷ 32 ∷ 48 ∷ 32 ∷ 49 ∷ 48 ∷ 10 ∷ []
-unfolding value_of N digits decimal beat_text every first_from ones zeros is_schedule shift found has01 moves_next next steps
+unfolding value_of N digits decimal beat_text every first_from ones zeros is_schedule shift found has01 moves_next next
+    steps
     changed
 fourth = refl
 
 -- the empty schedule prints as -: 0 0 0 - [E4]
 empty : line_of Which.Packing (4 ∷ 0 ∷ 2 ∷ 0 ∷ 0 ∷ 0 ∷ []) ≡ 48 ∷ 32 ∷ 48 ∷ 32 ∷ 48 ∷ 32 ∷ 45 ∷ 10 ∷ []
-unfolding value_of tabulate N digits decimal beat_text every first_from ones zeros is_schedule shift found has01 moves_next
+unfolding value_of tabulate N digits decimal beat_text every first_from ones zeros is_schedule shift found has01
+    moves_next
     next steps changed
 empty = refl
 
@@ -109,56 +114,64 @@ lines =
 
 -- [E4] [E14]
 whole-list : packing_list orders ≡ lines
-unfolding list_from value_of tabulate N digits decimal beat_text every first_from ones zeros is_schedule shift found has01
+unfolding list_from value_of tabulate N digits decimal beat_text every first_from ones zeros is_schedule shift found
+    has01
     moves_next next steps changed
 whole-list = refl
 
 -- with a byte after them that is no record: refused 9 0 0, and the list ends [E14]
 cut_list : packing_list (orders ++ 12 ∷ [])
     ≡ lines ++ 114 ∷ 101 ∷ 102 ∷ 117 ∷ 115 ∷ 101 ∷ 100 ∷ 32 ∷ 57 ∷ 32 ∷ 48 ∷ 32 ∷ 48 ∷ 10 ∷ []
-unfolding list_from value_of tabulate N digits decimal beat_text every first_from ones zeros is_schedule shift found has01
+unfolding list_from value_of tabulate N digits decimal beat_text every first_from ones zeros is_schedule shift found
+    has01
     moves_next next steps changed
 cut_list = refl
 
 -- the explanation of 11010, number 1 of (3,2): 3 3 4 1 2 3 4 [X9]
 explained-first : line_of Which.Explaining (12 ∷ 0 ∷ 1 ∷ 0 ∷ 3 ∷ 2 ∷ 2 ∷ 0 ∷ 0 ∷ 0 ∷ 0 ∷ 0 ∷ 0 ∷ 0 ∷ [])
     ≡ 51 ∷ 32 ∷ 51 ∷ 32 ∷ 52 ∷ 32 ∷ 49 ∷ 32 ∷ 50 ∷ 32 ∷ 51 ∷ 32 ∷ 52 ∷ 10 ∷ []
-unfolding value_of tabulate N digits decimal every first_from ones zeros is_schedule shift found has01 moves_next next steps
+unfolding value_of tabulate N digits decimal every first_from ones zeros is_schedule shift found has01 moves_next next
+    steps
     changed differing_from explanation_of places_text
 explained-first = refl
 
 -- that of 10101: 4 2 2 1 2
 explained-second : line_of Which.Explaining (5 ∷ 0 ∷ 2 ∷ 0 ∷ 3 ∷ 2 ∷ 168 ∷ [])
     ≡ 52 ∷ 32 ∷ 50 ∷ 32 ∷ 50 ∷ 32 ∷ 49 ∷ 32 ∷ 50 ∷ 10 ∷ []
-unfolding value_of tabulate N digits decimal every first_from ones zeros is_schedule shift found has01 moves_next next steps
+unfolding value_of tabulate N digits decimal every first_from ones zeros is_schedule shift found has01 moves_next next
+    steps
     changed differing_from explanation_of places_text
 explained-second = refl
 
 -- a number that no form has is refused as in the packing list
 explained-third : line_of Which.Explaining (12 ∷ 0 ∷ 1 ∷ 0 ∷ 3 ∷ 2 ∷ 5 ∷ 0 ∷ 0 ∷ 0 ∷ 0 ∷ 0 ∷ 0 ∷ 0 ∷ [])
     ≡ 114 ∷ 101 ∷ 102 ∷ 117 ∷ 115 ∷ 101 ∷ 100 ∷ 32 ∷ 55 ∷ 32 ∷ 48 ∷ 32 ∷ 48 ∷ 10 ∷ []
-unfolding value_of tabulate N digits decimal every first_from ones zeros is_schedule shift found has01 moves_next next steps
+unfolding value_of tabulate N digits decimal every first_from ones zeros is_schedule shift found has01 moves_next next
+    steps
     changed differing_from explanation_of places_text
 explained-third = refl
 
 -- 1010 for (3,1): three ones were asked for, and two are there [X11]
 explained-missing : line_of Which.Explaining (5 ∷ 0 ∷ 2 ∷ 0 ∷ 3 ∷ 1 ∷ 160 ∷ [])
     ≡ 114 ∷ 101 ∷ 102 ∷ 117 ∷ 115 ∷ 101 ∷ 100 ∷ 32 ∷ 54 ∷ 32 ∷ 48 ∷ 32 ∷ 45 ∷ 49 ∷ 32 ∷ 51 ∷ 32 ∷ 50 ∷ 10 ∷ []
-unfolding value_of tabulate N digits decimal every first_from ones zeros is_schedule shift found has01 moves_next next steps
+unfolding value_of tabulate N digits decimal every first_from ones zeros is_schedule shift found has01 moves_next next
+    steps
     changed differing_from explanation_of places_text
 explained-missing = refl
 
 -- 111 for (2,1): two were asked for, and three are there [X11]
 explained-over : line_of Which.Explaining (5 ∷ 0 ∷ 2 ∷ 0 ∷ 2 ∷ 1 ∷ 224 ∷ [])
     ≡ 114 ∷ 101 ∷ 102 ∷ 117 ∷ 115 ∷ 101 ∷ 100 ∷ 32 ∷ 54 ∷ 32 ∷ 48 ∷ 32 ∷ 49 ∷ 32 ∷ 50 ∷ 32 ∷ 51 ∷ 10 ∷ []
-unfolding value_of tabulate N digits decimal every first_from ones zeros is_schedule shift found has01 moves_next next steps
+unfolding value_of tabulate N digits decimal every first_from ones zeros is_schedule shift found has01 moves_next next
+    steps
     changed differing_from explanation_of places_text
 explained-over = refl
 
 -- the empty schedule is the only form of (0,0)
 explained-empty : line_of Which.Explaining (4 ∷ 0 ∷ 2 ∷ 0 ∷ 0 ∷ 0 ∷ [])
     ≡ 49 ∷ 32 ∷ 45 ∷ 32 ∷ 45 ∷ 32 ∷ 45 ∷ 10 ∷ []
-unfolding value_of tabulate N digits decimal every first_from ones zeros is_schedule shift found has01 moves_next next steps
+unfolding value_of tabulate N digits decimal every first_from ones zeros is_schedule shift found has01 moves_next next
+    steps
     changed differing_from explanation_of places_text
 explained-empty = refl
 
@@ -172,7 +185,8 @@ explained-lines =
 
 -- the whole list of the manual's four records [X10]
 whole-explained : explanations orders ≡ explained-lines
-unfolding list_from value_of tabulate N digits decimal every first_from ones zeros is_schedule shift found has01 moves_next
+unfolding list_from value_of tabulate N digits decimal every first_from ones zeros is_schedule shift found has01
+    moves_next
     next steps changed differing_from explanation_of places_text
 whole-explained = refl
 
@@ -199,7 +213,8 @@ outlined-110 = refl
 
 -- 10 and the empty schedule: 1, an empty line, and another empty line; no record gives nothing [I6]
 whole-outlined : outlines (5 ∷ 0 ∷ 2 ∷ 0 ∷ 1 ∷ 1 ∷ 128 ∷ 4 ∷ 0 ∷ 2 ∷ 0 ∷ 0 ∷ 0 ∷ []) ≡ 49 ∷ 10 ∷ 10 ∷ 10 ∷ []
-unfolding list_from value_of tabulate N digits decimal every first_from ones zeros is_schedule shift found has01 moves_next
+unfolding list_from value_of tabulate N digits decimal every first_from ones zeros is_schedule shift found has01
+    moves_next
     next steps changed grow parse foremost tree_of planted stem outline.lines lines_of outline.text
 whole-outlined = refl
 
@@ -290,7 +305,8 @@ turned-out-of-the-buffer p = omega (arith, p.inside.held)
 -- the line after a verdict: "1 1 0 10", and "refused 7 0 0"
 text-taken : text Which.Packing (5 ∷ 0 ∷ 2 ∷ 0 ∷ 1 ∷ 1 ∷ 128 ∷ []) Verdict.Accepted
     ≡ 49 ∷ 32 ∷ 49 ∷ 32 ∷ 48 ∷ 32 ∷ 49 ∷ 48 ∷ 10 ∷ []
-unfolding value_of tabulate N digits decimal beat_text every first_from ones zeros is_schedule shift found has01 moves_next
+unfolding value_of tabulate N digits decimal beat_text every first_from ones zeros is_schedule shift found has01
+    moves_next
     next steps changed
 text-taken = refl
 

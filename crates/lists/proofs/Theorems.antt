@@ -40,7 +40,8 @@ refused-own Which.Explaining src more why r = elim (ℕ_discrete (refusal_number
 pub line-own : (which : Which) → Own (line_of which)
 line-own which src more e = ap (text which (src ++ more)) (verdict-alone src more e) ∙ by (verdict_on src) refl
   where
-    by : (v : Verdict) → verdict_on src ≡ v → text which (src ++ more) (verdict_on src) ≡ text which src (verdict_on src)
+    by : (v : Verdict) → verdict_on src ≡ v
+        → text which (src ++ more) (verdict_on src) ≡ text which src (verdict_on src)
     by Verdict.Accepted r =
         let same = accepted-alone src more r in
         ap (text which (src ++ more)) r

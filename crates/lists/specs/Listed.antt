@@ -1,19 +1,19 @@
 -- The lists that the programs print of a stream of records, the manual, "The packing list", "The explanations" and "The
 -- list of outlines". Definitions only. The verdict on a record, the bytes to pass over and where a list ends are in
 -- specs/Stream of the crate `stream`.
---     form_in           the form that an accepted record means
---     ones_in           how many ones there are among the beats that a record packs
+--     form_in          the form that an accepted record means
+--     ones_in          how many ones there are among the beats that a record packs
 --     apart            the line of a refusal and an empty line, where outlines are listed [I6]
---     outlined_text     the outline of a form, or the refusal 14 where it is not closed, and an empty line [I6]
---     accepted_text     the lines of an accepted record, by the list: t, s, number and beats; the explanation; or the
+--     outlined_text    the outline of a form, or the refusal 14 where it is not closed, and an empty line [I6]
+--     accepted_text    the lines of an accepted record, by the list: t, s, number and beats; the explanation; or the
 --                      outline [E4] [X9] [I6]
---     refused_in        the lines of a refused record, by the list: "refused", the refusal's number, the place and the
+--     refused_in       the lines of a refused record, by the list: "refused", the refusal's number, the place and the
 --                      surplus; where beats are explained, for 6 then also the ones asked for and found; where outlines
 --                      are listed, an empty line after it [E4] [X11] [I6]
 --     text             the lines after a verdict
---     line_of           the lines of the record that a slice starts with
+--     line_of          the lines of the record that a slice starts with
 --     widest           the bytes that the lines of any record fit into
---     packing_list      the whole packing list of an input [E14]
+--     packing_list     the whole packing list of an input [E14]
 --     explanations     the whole list of explanations of an input [X10]
 --     outlines         the whole list of outlines of an input [I6]
 --     Buffers          the buffers are large enough: for any record, and for the beats of any schedule
@@ -62,7 +62,8 @@ refused_in Which.Outlining src why = apart why
 
 abbrev pub text : Which → List ℕ → Verdict → List ℕ
 text which src Verdict.Accepted =
-    accepted_text which (ups src) (downs src) (meant_number (layout_in src) (ups src) (downs src) (body src)) (form_in src)
+    accepted_text which (ups src) (downs src) (meant_number (layout_in src) (ups src) (downs src) (body src))
+    (form_in src)
 text which src (Verdict.Refused why) = refused_in which src why
 
 abbrev pub line_of : Which → List ℕ → List ℕ

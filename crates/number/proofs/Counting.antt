@@ -6,7 +6,7 @@
 --     ranked             what the last test of the ones says of the whole
 --     front i b          the beats before i, last first
 --     goes_parts         what the test of a beat says
---     goes_on_lem            every beat of a schedule passes it
+--     goes_on_lem        every beat of a schedule passes it
 --     Counted            ups, downs and number are the counts and the place of the beats before i, which play; a
 --                        beat stands after zeros, and a 0 only where these are not the first
 --     front-level        the leading ones and zeros of a schedule pass their test

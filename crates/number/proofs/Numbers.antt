@@ -1,9 +1,9 @@
 -- How many steps lead from one form to another, wherever counting starts.
 --     leads-once            below N(t, s) steps at most one number leads from a form to another
---     steps_to-is            a number of steps below N(t, s) that leads there is the one that is found
+--     steps_to-is           a number of steps below N(t, s) that leads there is the one that is found
 --     steps_to-leads, steps_to-below      one is found
---     steps_to-fewest        it is the fewest
---     fewest-steps_to        and the only number that is
+--     steps_to-fewest       it is the fewest
+--     fewest-steps_to       and the only number that is
 --     start-schedule, form-schedule, top-form-schedule      the form of a number is a schedule of t, s
 -- Assumes nothing.
 use mathlib.Core.Bool.{Bool, true, false, and-eq-true_iff}

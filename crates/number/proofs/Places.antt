@@ -1,5 +1,5 @@
 -- The place of a form in list S, from 1 on, by its rank, which counts from t ones then s zeros: these close the list.
---     place_of m v                   the place of rank v in a list S of m forms
+--     place_of m v                  the place of rank v in a list S of m forms
 --     place-zero, place-more        by whether the rank is 0
 --     place-some, place_same        there is a place, and it says which rank it is
 --     place-back                    a place before the last is the rank

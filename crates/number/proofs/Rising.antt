@@ -19,7 +19,8 @@ split-ups (suc y) (x ∷ b) h f =
     let rest = split-ups y b (omega arith) (λ k l. f (suc k) (omega arith)) in
     (rest.0, ap₂ (λ (v : ℕ) (l : List ℕ). v ∷ l) (f 0 (omega arith)) rest.1)
 
-split-downs : (q : ℕ) (b : List ℕ) → q ≤ length b → ((k : ℕ) → k < q → get_or b k 0 ≡ 0) → (z : List ℕ) × (b ≡ downs q z)
+split-downs : (q : ℕ) (b : List ℕ) → q ≤ length b → ((k : ℕ) → k < q → get_or b k 0 ≡ 0)
+    → (z : List ℕ) × (b ≡ downs q z)
 split-downs zero b h f = (b, refl)
 split-downs (suc q) [] h f = absurd (omega arith)
 split-downs (suc q) (x ∷ b) h f =

@@ -129,7 +129,8 @@ module _ {t s : ℕ} {b : List ℕ} (p : Schedule t s b) where
   number-from-top =
       let few = schedule-le p in
       let more : suc (number_of t s b) ≡ number_of t s b + 1 = omega arith in
-      steps_to-is (top-schedule t s few) p ((number_of t s b + 1) % N t s) (mod-lt (number_of t s b + 1) (N-pos t s few))
+      steps_to-is (top-schedule t s few) p ((number_of t s b + 1) % N t s)
+      (mod-lt (number_of t s b + 1) (N-pos t s few))
       (ap (λ (n : ℕ). form_from_top t s (n % N t s)) (sym more) ∙ sym (form-after few (number_of t s b)) ∙ number-form)
 
   -- the form before b is where one step less leads

@@ -1,6 +1,6 @@
 -- The list S by its groups, the manual, "The number"; source 000, section 3, (7a) and (7b) [M7]. Definitions only.
---     up_to f m       the lists f 1, f 2, .., f m, one after the other
---     last_group      the groups go up to s, or up to s − 1 if t = s
+--     up_to f m      the lists f 1, f 2, .., f m, one after the other
+--     last_group     the groups go up to s, or up to s − 1 if t = s
 --     ending         a front, then a 1 and then s − i zeros
 --     S t s          for each i the fronts of S (t−1) i with that ending; t ones then s zeros closes the list [M7]
 use Rattle.std.specs.Prelude.{cond, List, [], ◌∷◌, ◌++◌, map, ℕ, zero, suc, pred, ◌-◌, eqb, replicate}

@@ -1,10 +1,10 @@
 -- The number of a form, the manual, "The number"; the letter, demand 2 [O2]. Definitions only.
 --     same               whether two lists of beats are equal, as a test
 --     Fewest a b n       n is the fewest steps that lead from a to b [M1]
---     steps_to a m b      the first n below m for which n steps from a lead to b
+--     steps_to a m b     the first n below m for which n steps from a lead to b
 --     start t s          where counting starts: the form after t ones and s zeros [M0]
---     number_of t s b     the number of a form, its number in the catalogue: the steps from there [O2]
---     form_of t s n       the form of number n: n steps from there [O2]
+--     number_of t s b    the number of a form, its number in the catalogue: the steps from there [O2]
+--     form_of t s n      the form of number n: n steps from there [O2]
 -- The earlier numbering, which records of kind 1 hold, counts from t ones then s zeros itself:
 --     number_from_top t s b     the steps from there [M9]
 --     form_from_top t s n       n steps from there [M9]

@@ -1,8 +1,8 @@
 -- Parts of the way from a form to its number, for the contracts of private functions. Nothing here has to be believed.
 -- Definitions only.
---     is_sized t s b            the counts are allowed, and the beats are as many as they say
---     is_level t p q            p ones and then q zeros may begin a schedule of t ones
---     goes_on t p q beat        the beat may stand after p ones and q zeros of a schedule of t ones
+--     is_sized t s b           the counts are allowed, and the beats are as many as they say
+--     is_level t p q           p ones and then q zeros may begin a schedule of t ones
+--     goes_on t p q beat       the beat may stand after p ones and q zeros of a schedule of t ones
 --     Ranks t s b whole n      whole exactly if b is a schedule of allowed counts, and then n is its number
 use Rattle.std.specs.Prelude.{Bool, true, false, ◌&&◌, List, ◌≡◌, ℕ, ◌+◌, eqb, leb, ltb, length}
 use Rattle.triangle.specs.Count.{largest}

@@ -72,7 +72,8 @@ under-beside p j k q =
 
 -- where the lines under a number go on past those of another list of headings under it, nothing follows that list
 pub line_after : (a c r : Outline) (p : List ℕ) (k : ℕ) → headings c < headings a
-    → get_or (lines a (under p k) 1) (headings c) [] ≡ get_or (lines c (under p k) 1 ++ lines r p (suc k)) (headings c) []
+    → get_or (lines a (under p k) 1) (headings c) [] ≡ get_or (lines c (under p k) 1 ++ lines r p (suc k)) (headings c)
+    []
     → r ≡ none
 unfolding lines lines_of
 line_after a c none p k h e = refl

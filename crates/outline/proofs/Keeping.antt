@@ -1,7 +1,7 @@
 -- What stays of a text when a piece is written into it.
 --     kept-length      its length
 --     kept-part        a part of what stands before the piece
---     kept-get_or        and so a byte of that
+--     kept-get_or      and so a byte of that
 --     piece-part       the first part of a piece stands where the piece does
 --     repeated-none, repeated-more     a part of what stands before is written again, byte by byte
 -- Assumes nothing.
@@ -11,7 +11,8 @@ use Prim.Native.Nat.{ℕ, ◌+◌, ◌-◌, ◌≤◌, ◌<◌}
 use native.Mathlib.Numerals.{add-one}
 use native.Mathlib.Omega.{arith}
 use lib.ListN.{length, take, drop, set, get_or, length-append, length-drop, take-append-drop, get_or-append}
-use lib.Seq.{length-take-le, take-append-le, take-append_seam, drop-append-le, drop_at, take-suc, get_or-drop, paste-zero}
+use lib.Seq.{length-take-le, take-append-le, take-append_seam, drop-append-le, drop_at, take-suc, get_or-drop}
+use lib.Seq.{paste-zero}
 use Rattle.text.specs.Written.{Written}
 use Rattle.text.proofs.Writing.{written-put, written_then}
 use Rattle.outline.specs.Writing.{part}

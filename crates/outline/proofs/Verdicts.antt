@@ -67,7 +67,8 @@ module _ (t s : ℕ) (b : List ℕ) where
 
     pub room-short : judge (closed_rows t s b) ≡ Verdict.Accepted → room < length (printed b)
         → judge (outline_rows t s b room) ≡ Verdict.Refused NoRoom
-    room-short e h = judge-accepted (closed_rows t s b) fitting e ∙ row-holds NoRoom (lt-ltb room (length (printed b)) h)
+    room-short e h =
+        judge-accepted (closed_rows t s b) fitting e ∙ row-holds NoRoom (lt-ltb room (length (printed b)) h)
 
     pub room-enough : judge (closed_rows t s b) ≡ Verdict.Accepted → length (printed b) ≤ room
         → judge (outline_rows t s b room) ≡ Verdict.Accepted

@@ -1,9 +1,9 @@
 -- What the way from a schedule to its outline's text answers and leaves, the manual, "The outline" and "Refusal
 -- numbers" (rows 1 to 6, 14, 12). Definitions only.
---     closed_rows      the refusals of a schedule that is to be printed, in their order: 1 to 6, 14 [H7] [R23]
---     outline_rows     the same, and then 12 where the text is longer than the room [H7]
---     outline_answer   the bytes written, or the refusal [H6]
---     outline_left     what is left in the lent text: the outline's at its start and the rest as it was; refused, what
+--     closed_rows     the refusals of a schedule that is to be printed, in their order: 1 to 6, 14 [H7] [R23]
+--     outline_rows    the same, and then 12 where the text is longer than the room [H7]
+--     outline_answer  the bytes written, or the refusal [H6]
+--     outline_left    what is left in the lent text: the outline's at its start and the rest as it was; refused, what
 --                     was there [H6]
 use Rattle.std.specs.Prelude.{not, List, [], ◌∷◌, ◌++◌, ℕ, eqb, ltb, length, drop}
 use Rattle.refusal.specs.declared.Answer.{Answer}

@@ -3,7 +3,7 @@
 --     headings, below      how many headings an outline has, and a heading with all below it
 --     schedule, beats      the schedule of an outline, and the beats of a heading: a 1 opens it one level down, and
 --                          after all that stands below it a 0 goes back up [H2]
---     planted, outline_of   the outline of a tree: a node is a heading, its left tree all below it, its right tree the
+--     planted, outline_of  the outline of a tree: a node is a heading, its left tree all below it, its right tree the
 --                          headings that follow; and so the outline of a closed schedule, by its tree [H2]
 use Rattle.std.specs.Prelude.{List, [], ◌∷◌, ◌++◌, ℕ, suc, ◌+◌}
 use Rattle.tree.specs.Tree.{Tree, leaf, node}

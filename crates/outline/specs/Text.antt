@@ -3,9 +3,9 @@
 --                          topmost, which have no parent
 --     under p k            the number of the k-th heading under p: that, and its place among its sisters, from 1 [H4]
 --     lines o p k          the numbers of an outline's headings, line by line, where its first is the k-th under p
---     lines_of h p          the number p of a heading, and those of all below it
+--     lines_of h p         the number p of a heading, and those of all below it
 --     text                 each line with its line feed [H4]
---     outline_text          the text of an outline [H4]
+--     outline_text         the text of an outline [H4]
 --     printed              the text of the outline of a closed schedule [H4]
 use Rattle.std.specs.Prelude.{List, [], ◌∷◌, ◌++◌, ℕ, suc}
 use Rattle.text.specs.Decimal.{decimal}

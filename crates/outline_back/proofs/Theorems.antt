@@ -76,7 +76,8 @@ written t s b lent {m} e = by (judge (outline_rows t s b (length lent))) refl e
 
 -- the way back from the text that the way there wrote
 pub there_and_back : (t s : ℕ) (b lent : List ℕ) {m : ℕ} {out c : List ℕ} {v : Verdict}
-    → outline_answer t s b lent ≡ Answer.Value m → length out ≡ t + t → Back t (take m (outline_left t s b lent)) out v c
+    → outline_answer t s b lent ≡ Answer.Value m → length out ≡ t + t
+    → Back t (take m (outline_left t s b lent)) out v c
     → (v ≡ Verdict.Accepted) × (c ≡ b)
 there_and_back t s b lent e fit u =
     let w = written t s b lent e in

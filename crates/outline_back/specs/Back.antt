@@ -3,7 +3,7 @@
 --     Leads n x k     the text x begins with k whole lines, each with its line feed, that are the leading lines of some
 --                     outline of n lines [H11]
 --     Wrong n x k     that many, and no more [H11]
---     back_rows        the refusals by size, in their order: 1, 3 [H10]
+--     back_rows       the refusals by size, in their order: 1, 3 [H10]
 --     Back            what the way back answers and leaves: the schedule of the outline of n lines whose text it is;
 --                     15, with the first wrong, missing or surplus line, exactly if no outline of n lines has this text
 --                     [H9] [H10] [R23]

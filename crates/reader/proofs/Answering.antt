@@ -20,7 +20,8 @@ use Rattle.triangle.specs.Count.{most_beats}
 use Rattle.counts.specs.Counts.{count_rows}
 use Rattle.number.specs.Number.{number_of}
 use Rattle.record.specs.Bytes.{value_of, unpacked}
-use Rattle.record.specs.Record.{long, ups_at, downs_at, body_at, form_by, packed_rows, kind_rows, read_rows, layout_in, cut}
+use Rattle.record.specs.Record.{long, ups_at, downs_at, body_at, form_by, packed_rows, kind_rows, read_rows, layout_in}
+use Rattle.record.specs.Record.{cut}
 use Rattle.record.specs.declared.layout.Layout.{Layout}
 use Rattle.record.specs.declared.layout.Numbering.{Numbering}
 use Rattle.record.specs.declared.reading.Reading.{Reading}

@@ -30,7 +30,8 @@ leaves-form : left_by (layout_of 2) (5 ∷ 0 ∷ 2 ∷ 0 ∷ 3 ∷ 2 ∷ 168 ∷
 unfolding value_of tabulate
 leaves-form = refl
 
-leaves-lent : left_by (layout_of 2) (5 ∷ 0 ∷ 2 ∷ 0 ∷ 3 ∷ 2 ∷ 168 ∷ []) (Verdict.Refused NoRoom) (7 ∷ 7 ∷ []) ≡ 7 ∷ 7 ∷ []
+leaves-lent : left_by (layout_of 2) (5 ∷ 0 ∷ 2 ∷ 0 ∷ 3 ∷ 2 ∷ 168 ∷ []) (Verdict.Refused NoRoom) (7 ∷ 7 ∷ []) ≡ 7 ∷ 7 ∷
+    []
 leaves-lent = refl
 
 read-leaves-form : read_left (5 ∷ 0 ∷ 2 ∷ 0 ∷ 3 ∷ 2 ∷ 168 ∷ []) (replicate most_beats 7)

@@ -29,7 +29,8 @@ use Rattle.record.specs.declared.reading.Reading.{Reading}
 use Rattle.record.specs.Bytes.{value_of}
 use Rattle.record.specs.Layout.{layout_of, counts_at, is_unknown}
 use Rattle.record.specs.Parts as said
-use Rattle.record.specs.Record.{long, kind_in, layout_in, ups_at, downs_at, body_at, body, cut, meant, kind_rows, read_rows_by}
+use Rattle.record.specs.Record.{long, kind_in, layout_in, ups_at, downs_at, body_at, body, cut, meant, kind_rows}
+use Rattle.record.specs.Record.{read_rows_by}
 use Rattle.reader.specs.Answers.{answer_by, left_by, read_answer_by, read_left_by, read_answer, read_left}
 use Rattle.reader.specs.Earlier.{earlier_layout, earlier_answer, earlier_left, renumbered}
 use Rattle.reader.proofs.Meaning.{Means, kind-means}

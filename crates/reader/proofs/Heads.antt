@@ -43,7 +43,8 @@ module _ (src : List ℕ) where
       two = elim (dec_lt (length src) 2) [ yes h ↦ absurd (true≢false (cut_short h ∙ e)) | no h ↦ omega arith ]
 
       below : long src ≤ longest
-      below = elim (dec_lt longest (long src)) [ yes h ↦ absurd (true≢false (cut-above two h ∙ e)) | no h ↦ omega arith ]
+      below =
+          elim (dec_lt longest (long src)) [ yes h ↦ absurd (true≢false (cut-above two h ∙ e)) | no h ↦ omega arith ]
 
       reaches : 2 + long src ≤ length src
       reaches = elim (dec_lt (length src) (2 + long src)) [

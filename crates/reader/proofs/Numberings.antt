@@ -3,8 +3,8 @@
 --     form-number-in       the form of number n has number n
 --     number-below-in      a form's number is below N(t, s)
 --     form-schedule-in     the form of a number is a schedule of t, s
---     held_stays, held-last, held-before     how a number from t ones then s zeros is turned: one that no form has
---                          stays, 0 becomes the last, any other one less
+--     held_stays, held-last, held-before  how a number from t ones then s zeros is turned: one that no form has
+--                                         stays, 0 becomes the last, any other one less
 --     held_below           a number that is turned is below N(t, s) exactly if it was
 --     held-form            and then it is the number in the catalogue of the form that had it
 --     held_rows, held-told, held-left     so it is judged as it is held, and answers and leaves the same

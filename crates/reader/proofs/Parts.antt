@@ -41,7 +41,8 @@ module _ (l k t s : ℕ) (p rest : List ℕ) where
 
 pub six : (src : List ℕ) → 6 ≤ length src
     → src
-    ≡ get_or src 0 0 ∷ (get_or src 1 0 ∷ (get_or src 2 0 ∷ (get_or src 3 0 ∷ (get_or src 4 0 ∷ (get_or src 5 0 ∷ drop 6 src)))))
+    ≡ get_or src 0 0 ∷ (get_or src 1 0 ∷ (get_or src 2 0 ∷ (get_or src 3 0 ∷
+    (get_or src 4 0 ∷ (get_or src 5 0 ∷ drop 6 src)))))
 six [] h = absurd (omega arith)
 six (x₀ ∷ []) h = absurd (omega arith)
 six (x₀ ∷ (x₁ ∷ [])) h = absurd (omega arith)

@@ -89,7 +89,8 @@ module _ (src : List ℕ) {t s : ℕ} {b : List ℕ} (a : Allowed t s) (q : Sche
   beats-held Layout.Unknown h = absurd (true≢false h.known)
 
   number-held : (k : Layout) → Holds k
-      → meant_number k (ups_at (counts_at k) src) (downs_at (counts_at k) src) (body_at (counts_at k) src) ≡ number_of t s b
+      → meant_number k (ups_at (counts_at k) src) (downs_at (counts_at k) src) (body_at (counts_at k) src) ≡ number_of t
+      s b
   number-held k h =
       let form = meant k (ups_at (counts_at k) src) (downs_at (counts_at k) src) (body_at (counts_at k) src) in
       ap₂ (λ (i j : ℕ). number_of i j form) h.t-is h.s-is ∙ ap (number_of t s) (beats-held k h)
@@ -264,11 +265,13 @@ module _ (src : List ℕ) (bytes : Bytes src) (room : ℕ) (e : judge (read_rows
           packed-unpacked (ups_at at src + downs_at at src) (body_at at src) g.exact m g.clean
       by Layout.Unknown u f n m = absurd (true≢false u)
 
-  front : src ≡ get_or src 0 0 ∷ (get_or src 1 0 ∷ (get_or src 2 0 ∷ (get_or src 3 0 ∷ (ups src ∷ (downs src ∷ drop 6 src)))))
+  front : src ≡ get_or src 0 0 ∷
+      (get_or src 1 0 ∷ (get_or src 2 0 ∷ (get_or src 3 0 ∷ (ups src ∷ (downs src ∷ drop 6 src)))))
   front =
       six src (omega (arith, at-four, reaches))
       ∙ ap (λ (j : ℕ).
-      get_or src 0 0 ∷ (get_or src 1 0 ∷ (get_or src 2 0 ∷ (get_or src 3 0 ∷ (ups_at j src ∷ (downs_at j src ∷ drop 6 src))))))
+      get_or src 0 0 ∷ (get_or src 1 0 ∷ (get_or src 2 0 ∷ (get_or src 3 0 ∷
+      (ups_at j src ∷ (downs_at j src ∷ drop 6 src))))))
       (sym at-four)
 
   two_bytes : (x y : ℕ) → x < 256 → y < 256 → low_first 2 (value_of (x ∷ (y ∷ []))) ≡ x ∷ (y ∷ [])

@@ -80,7 +80,8 @@ zero-from v m (suc d) h z =
     ∙ ap (λ (x : ℕ). x % 128 * 2) before
 
 -- the bits of unpacked beats, read past their end as well: those are the unused ones
-module _ (n : ℕ) (p : List ℕ) (long : length p ≡ bytes_for n) (bytes : (i : ℕ) → get_or p i 0 < 256) (z : unused n p ≡ 0)
+module _ (n : ℕ) (p : List ℕ) (long : length p ≡ bytes_for n) (bytes : (i : ℕ) → get_or p i 0 < 256)
+    (z : unused n p ≡ 0)
   where
     past : (j r : ℕ) → j < bytes_for n → r < 8 → n ≤ 8 * j + r → get_or p j 0 / 2 ^ (7 - r) % 2 ≡ 0
     past j r h k l =
@@ -100,7 +101,8 @@ module _ (n : ℕ) (p : List ℕ) (long : length p ≡ bytes_for n) (bytes : (i 
             let bits : 8 - n % 8 ≡ 8 * ((n + 7) / 8) - n = omega (arith, some) in
             ap₂ (λ (i k : ℕ). get_or p i 0 % 2 ^ k) byte_at bits ∙ z
 
-    bit : (j r : ℕ) → j < bytes_for n → r < 8 → get_or (drop (8 * j) (unpacked n p)) r 0 ≡ get_or p j 0 / 2 ^ (7 - r) % 2
+    bit : (j r : ℕ) → j < bytes_for n → r < 8
+        → get_or (drop (8 * j) (unpacked n p)) r 0 ≡ get_or p j 0 / 2 ^ (7 - r) % 2
     bit j r h k = get_or-drop (8 * j) (unpacked n p) r 0 ∙ elim (dec_lt (8 * j + r) n) [
       | yes l ↦ inside l
       | no l ↦
@@ -112,7 +114,8 @@ module _ (n : ℕ) (p : List ℕ) (long : length p ≡ bytes_for n) (bytes : (i 
         inside l =
             let byte_at : (8 * j + r) / 8 ≡ j = omega arith in
             let bit_at : (8 * j + r) % 8 ≡ r = omega arith in
-            get_or-tabulate n (beat_at p) (8 * j + r) l ∙ ap₂ (λ (i k : ℕ). get_or p i 0 / 2 ^ (7 - k) % 2) byte_at bit_at
+            get_or-tabulate n (beat_at p) (8 * j + r) l
+            ∙ ap₂ (λ (i k : ℕ). get_or p i 0 / 2 ^ (7 - k) % 2) byte_at bit_at
 
     pub packed-unpacked : packed (unpacked n p) ≡ p
     packed-unpacked = ext_get_or 0 (packed (unpacked n p)) p (size ∙ sym long) each

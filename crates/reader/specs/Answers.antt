@@ -1,8 +1,8 @@
 -- What reading a record answers and leaves, the manual, "Order record" and "Refusal numbers", by the definitions of
 -- `record`. Definitions only.
 --     told             an answer by the verdict: counts, number and 2 + L; or the refusal, and the bytes consumed [R21]
---     answer_by         the answer to a record of a layout, by a numbering: the number of the form that it means [K4]
---     left_by           what the lent slice holds afterwards: the schedule, and after it what was there; refused, what
+--     answer_by        the answer to a record of a layout, by a numbering: the number of the form that it means [K4]
+--     left_by          what the lent slice holds afterwards: the schedule, and after it what was there; refused, what
 --                      was there [B2]
 --     read_answer_by, read_left_by     the same of a slice that starts at a record, of a layout and by a numbering
 --     read_answer, read_left         of the layout of its kind, and by the numbering of the catalogue [B2] [K4]
@@ -35,7 +35,8 @@ answer_by by k src v =
 abbrev pub left_by : Layout → List ℕ → Verdict → List ℕ → List ℕ
 left_by k src v out =
     let at = counts_at k in
-    left v (meant k (ups_at at src) (downs_at at src) (body_at at src) ++ drop (ups_at at src + downs_at at src) out) out
+    left v (meant k (ups_at at src) (downs_at at src) (body_at at src) ++ drop (ups_at at src + downs_at at src) out)
+    out
 
 abbrev pub read_answer_by : Numbering → Layout → List ℕ → List ℕ → Reading
 read_answer_by by k src out = answer_by by k src (judge (read_rows_by k (length out) src))

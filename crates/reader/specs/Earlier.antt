@@ -1,7 +1,7 @@
 -- What version 1 of the library read: records of kinds 1 and 2 alone, and what it answered: numbers that count from t
 -- ones then s zeros, the manual, "Order record". Definitions only.
---     earlier_layout    the layout of a kind: every other number was no kind
---     earlier_answer, earlier_left     what reading a slice that starts at a record answered and left: by that layout,
+--     earlier_layout   the layout of a kind: every other number was no kind
+--     earlier_answer, earlier_left   what reading a slice that starts at a record answered and left: by that layout,
 --                                    and by the numbering from t ones then s zeros [K5] [K6]
 --     renumbered       an order with its number in the catalogue: one less, and N(t, s) − 1 for 0 [K5]
 use Rattle.std.specs.Prelude.{List, ℕ, zero, suc, ◌+◌, ◌-◌, ◌%◌}

@@ -1,7 +1,7 @@
 -- The tests of the rule, and what they decide.
 --     one-form-counts, counts-one-form     the counts have one form exactly if N is 1
 --     no-rise, nowhere-none     there is no 01 exactly if no 0 is followed by 1
---     found_first, first_found  the found 1 is that of the first 0 followed by 1
+--     found_first, first_found             the found 1 is that of the first 0 followed by 1
 --     moves-may, may-moves, may-not     the beat after the found 1 moves exactly if it may
 --     Tests, tests              the four ways that the tests go
 --     last-next, next-next, found-next     the next form by them

@@ -4,10 +4,10 @@
 --                       places; none of a thing that the case lacks [X2]
 --     says              the explanation of these four
 --     differing b c     the places at which b and c differ, ascending; differing_from k counts the first place as k
---     explanation_of b   the explanation of a schedule: 1 where its counts have one form only; else 2 where no 0 is
+--     explanation_of b  the explanation of a schedule: 1 where its counts have one form only; else 2 where no 0 is
 --                       followed by 1, and the last beat moves; else 3 where the rule moves the beat after the found 1,
 --                       and 4 where it moves the found 1 [X3]
---     no_place           what is answered where a place is asked for and there is none
+--     no_place          what is answered where a place is asked for and there is none
 --     places_of, values_of     what the cases of the enums say [F5]
 use Rattle.std.specs.Prelude.{cond, List, [], ◌∷◌, ℕ, suc, pred, eqb, length}
 use Rattle.triangle.specs.Count.{N}

@@ -1,5 +1,5 @@
 -- What the line of an explanation says, and that it says nothing else.
---     read-back        from the line the case, the places and the changed places are read back [X9]
+--     read_back_lem    from the line the case, the places and the changed places are read back [X9]
 --     line-one         so two schedules with one line have one explanation [X9]
 --     line-moving, line-changing     whoever does to a schedule what its line says gets the next form [X7]
 --     line-count       and the changed places are as many as the step answers [X8]
@@ -90,7 +90,8 @@ say-places (k ∷ l) = say-all (k ∷ l)
 
 -- a line of four parts, the second and the third of one word each
 module _ (n : ℕ) (found moved changed : List ℕ) (one : length found ≤ 1) (other : length moved ≤ 1) where
-  single : (l rest : List ℕ) → length l ≤ 1 → words_in (places_text l ++ 32 ∷ rest) ≡ get_or (words_of l) 0 [] ∷ words_in rest
+  single : (l rest : List ℕ) → length l ≤ 1
+      → words_in (places_text l ++ 32 ∷ rest) ≡ get_or (words_of l) 0 [] ∷ words_in rest
   unfolding places_text
   single [] rest h = word-then (45 ∷ []) rest dash-plain
   single (k ∷ []) rest h = word-then (decimal k) rest (decimal-plain k)

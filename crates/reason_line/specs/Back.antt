@@ -1,9 +1,9 @@
 -- How a line is read back. Definitions only.
---     words_from w l     the words of a line from l on, w being what the first of them has so far: a space ends a word,
+--     words_from w l    the words of a line from l on, w being what the first of them has so far: a space ends a word,
 --                       a line feed the last one
---     words_in l         the words of a line
---     places_in          the places that words say, each a number in decimal; none where the word is -
---     read_back          the explanation that a line gives: its first word is the case, the second the place of the
+--     words_in l        the words of a line
+--     places_in         the places that words say, each a number in decimal; none where the word is -
+--     read_back         the explanation that a line gives: its first word is the case, the second the place of the
 --                       found 1, the third that of the moved beat, the others are the changed places [X9]
 use Rattle.std.specs.Prelude.{cond, List, [], ◌∷◌, ◌++◌, ℕ, eqb, get_or, take, drop}
 use Rattle.reason.specs.Explanation.{Explanation, says}

@@ -1,9 +1,9 @@
 -- The text of a line of the list of explanations, the manual, "Why a beat moves": lists of ASCII codes. Definitions
 -- only.
---     places_text        places in decimal, separated by one space; - where there are none
---     explained_line     the case, the place of the found 1, that of the moved beat, and the changed places, separated
+--     places_text       places in decimal, separated by one space; - where there are none
+--     explained_line    the case, the place of the found 1, that of the moved beat, and the changed places, separated
 --                       so; a line feed ends the line [X9]
---     counted_line       what the packing list says of a refusal, and then the ones asked for and the ones found [X11]
+--     counted_line      what the packing list says of a refusal, and then the ones asked for and the ones found [X11]
 use Rattle.std.specs.Prelude.{List, [], ◌∷◌, ◌++◌, ℕ}
 use Rattle.refusal.specs.declared.Refusal.{Refusal}
 use Rattle.reason.specs.Explanation.{Explanation}

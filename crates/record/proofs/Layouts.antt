@@ -43,7 +43,8 @@ written_known (Layout.Beaten at) w = refl
 written_known Layout.Unknown w = absurd (true≢false w)
 
 pub record-places : (k t s : ℕ) (b : List ℕ) → is_unknown (layout_of k) ≡ false
-    → (ups_at (counts_at (layout_of k)) (record_of k t s b) ≡ t) × (downs_at (counts_at (layout_of k)) (record_of k t s b) ≡ s)
+    → (ups_at (counts_at (layout_of k)) (record_of k t s b) ≡ t)
+    × (downs_at (counts_at (layout_of k)) (record_of k t s b) ≡ s)
     × (drop (counts_at (layout_of k) + 2) (record_of k t s b) ≡ payload (layout_of k) t s b)
 unfolding low_first
 record-places zero t s b u = absurd (true≢false u)

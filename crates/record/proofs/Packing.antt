@@ -202,7 +202,8 @@ module _ {p : List ℕ} {n at byte : ℕ} {out : List ℕ} (f : (i : ℕ) → ge
         last : x ≡ moved p at → (at + 1) % 8 ≡ 0 → x % 128 * 2 ≡ 0
         last from z =
             let seven : at % 8 ≡ 7 = omega arith in
-            let y : x ≡ get_or p (at / 8) 0 * 128 % 256 = from ∙ ap (λ (j : ℕ). get_or p (at / 8) 0 * 2 ^ j % 256) seven in
+            let y : x ≡ get_or p (at / 8) 0 * 128 % 256 =
+            from ∙ ap (λ (j : ℕ). get_or p (at / 8) 0 * 2 ^ j % 256) seven in
             omega arith
 
         next : x ≡ moved p at → ((at + 1) % 8 ≡ 0 → ⊥) → x % 128 * 2 ≡ moved p (at + 1)

@@ -57,7 +57,8 @@ module _ (k : Layout) (kind t s : ℕ) (b : List ℕ) where
   record-size = omega arith
 
   -- head, and payload from byte `from` on
-  pub record-made : (l from n : ℕ) (out x y : List ℕ) → x ≡ low_first 2 l ++ (low_first 2 kind ++ (t ∷ (s ∷ drop 6 out)))
+  pub record-made : (l from n : ℕ) (out x y : List ℕ)
+      → x ≡ low_first 2 l ++ (low_first 2 kind ++ (t ∷ (s ∷ drop 6 out)))
       → y ≡ p → l ≡ counts_at k + length p → from ≡ 6 → n ≡ length p
       → take from x ++ (y ++ drop n (drop from x))
       ≡ record_in k kind t s b ++ drop (length (record_in k kind t s b)) out

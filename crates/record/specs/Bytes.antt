@@ -1,17 +1,18 @@
 -- Numbers and beats as bytes, the manual, "Order record". Definitions only.
---     low_first k v     the first k bytes of v, the low one first
---     value_of l        the number whose bytes these are, the low one first
+--     low_first k v    the first k bytes of v, the low one first
+--     value_of l       the number whose bytes these are, the low one first
 --     spell k c        the number that the first k beats of c spell, each the next lower bit; 0 for a beat that is not
 --                      there
---     bytes_for n       the whole bytes that n beats need
+--     bytes_for n      the whole bytes that n beats need
 --     tabulate n f     f 0, f 1, … f (n − 1)
 --     packed b         the beats eight to a byte, the first in the highest bit, the unused low bits 0 [B1]
---     beat_at p i       the i-th bit of the bytes p, from the highest of the first byte on
+--     beat_at p i      the i-th bit of the bytes p, from the highest of the first byte on
 --     unpacked n p     the first n of them
 --     turned p at x    where the unpacking looks at a beat: at every eighth the next byte, else what is left of the
 --                      last
 --     unused n p       the low bits that n beats leave over in the last byte they need
-use Rattle.std.specs.Prelude.{cond, List, [], ◌∷◌, ◌++◌, ℕ, zero, suc, ◌+◌, ◌-◌, ◌*◌, ◌/◌, ◌%◌, ◌^◌, eqb, length, get_or, drop}
+use Rattle.std.specs.Prelude.{cond, List, [], ◌∷◌, ◌++◌, ℕ, zero, suc, ◌+◌, ◌-◌, ◌*◌, ◌/◌, ◌%◌, ◌^◌, eqb, length}
+use Rattle.std.specs.Prelude.{get_or, drop}
 
 unfoldable pub low_first : ℕ → ℕ → List ℕ
 low_first zero v = []

@@ -1,12 +1,12 @@
 -- How each kind of record is laid out, the manual, "Order record": L in two bytes, the kind in two, t and s in a byte
 -- each, and what the kind holds. Definitions only.
---     layout_of         the layout of a kind: whether a record of it holds the number of the form, and by which
+--     layout_of        the layout of a kind: whether a record of it holds the number of the form, and by which
 --                      numbering, or its packed beats, and the byte at which t stands; s is the next byte, and what is
 --                      held begins after it [O5]
---     counts_at         the byte at which t stands
---     number_bytes      how many bytes the number has
---     is_unknown        a kind that has no layout
---     is_unwritten      a kind that is not written: one that has no layout, or holds numbers from t ones then s zeros
+--     counts_at        the byte at which t stands
+--     number_bytes     how many bytes the number has
+--     is_unknown       a kind that has no layout
+--     is_unwritten     a kind that is not written: one that has no layout, or holds numbers from t ones then s zeros
 --                      [K3]
 use Rattle.std.specs.Prelude.{Bool, true, false, ℕ, zero, suc}
 use Rattle.record.specs.declared.layout.Layout.{Layout}

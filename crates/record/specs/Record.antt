@@ -1,35 +1,36 @@
 -- Order records, the manual, "Order record" and "Refusal numbers" (Order: reading, writing), by the layout of their
 -- kind. Definitions only.
 --     A record, written:
---     number_by         the number of a form by a numbering: the catalogue's, or the one from t ones then s zeros
+--     number_by        the number of a form by a numbering: the catalogue's, or the one from t ones then s zeros
 --     payload          what a record of a kind has after its counts: the number, by the kind's numbering (kinds 1 and
 --                      3), or the packed beats (kind 2) [O5] [K3]
---     record_in, record_of         the bytes of a record, of a layout and of a kind: its length, its kind, its
+--     record_in, record_of       the bytes of a record, of a layout and of a kind: its length, its kind, its
 --                                counts, its payload [O5] [B2]
---     write_rows        the refusals of writing, in their order: 10, 1, 2, 3, 4, 5, 6, 12; kind 1 is refused 10, as a
+--     write_rows       the refusals of writing, in their order: 10, 1, 2, 3, 4, 5, 6, 12; kind 1 is refused 10, as a
 --                      kind that has no layout [R19] [K3]
---     write_answer, write_left     what writing answers, 2 + L, and leaves: the record, and after it what was there;
+--     write_answer, write_left   what writing answers, 2 + L, and leaves: the record, and after it what was there;
 --                                known_answer and known_left where the kind is written [B2]
 --     A record, read:
---     long, kind_in, layout_in, ups, downs, body     the parts of the record that a slice starts with; ups_at, downs_at
+--     long, kind_in, layout_in, ups, downs, body   the parts of the record that a slice starts with; ups_at, downs_at
 --                                                  and body_at by the byte at which t stands
 --     cut              the slice has no whole record, or L is above 1,020 [D1c]
 --     misfit           L is wrong for the kind
 --     spoiled          kind 2: what L leaves for the beats is not exactly what the counts need,
 --                      or an unused bit is not 0
---     form_by           the form of a number by a numbering
+--     form_by          the form of a number by a numbering
 --     meant            the schedule that a record means: the form of the number that it holds, by the kind's
 --                      numbering, or the beats that are packed [B7] [K4]
---     meant_number      its number, in the catalogue for every kind [B7] [K4]
---     body_rows         the refusals of what a kind holds: 7 exactly if the number, as it is held, is not below N(t, s);
+--     meant_number     its number, in the catalogue for every kind [B7] [K4]
+--     body_rows        the refusals of what a kind holds: 7 exactly if the number, as it is held, is not below N(t, s);
 --                      or 11, 5, 6 [K4]
---     head_rows_by, head_rows       the refusals of reading before the kind is known, in their order: 12, 9, 11 (L below
+--     head_rows_by, head_rows    the refusals of reading before the kind is known, in their order: 12, 9, 11 (L below
 --                                2), 10, by a layout and by that of the kind in the slice [R13] [B2]
---     kind_rows         and those of a kind: 11 (L wrong for it), 1, 2, then 7, or 11, 5, 6 [R13]
+--     kind_rows        and those of a kind: 11 (L wrong for it), 1, 2, then 7, or 11, 5, 6 [R13]
 --     read_rows_by, read_rows       both, by a layout and by that of the kind in the slice [R20]
 --     eaten            the bytes consumed: 2 + L, but 0 after 9 and after 12 [R21]
 --     What reading answers and leaves is in specs/Answers of the crate `reader`.
-use Rattle.std.specs.Prelude.{Bool, false, not, cond, ◌||◌, List, [], ◌∷◌, ◌++◌, ℕ, ◌+◌, ◌-◌, eqb, ltb, length, get_or, take, drop}
+use Rattle.std.specs.Prelude.{Bool, false, not, cond, ◌||◌, List, [], ◌∷◌, ◌++◌, ℕ, ◌+◌, ◌-◌, eqb, ltb, length, get_or}
+use Rattle.std.specs.Prelude.{take, drop}
 use Rattle.refusal.specs.declared.Answer.{Answer}
 use Rattle.refusal.specs.declared.Refusal.{Refusal}
 use Rattle.refusal.specs.declared.Refusal.TheVariants.{NoSuchNumber, CutShort, UnknownKind, WrongSize, NoRoom}

@@ -5,7 +5,7 @@
 --     judge-front, judge-back     what an order accepts, its first rows accept, and the rows after them
 --     All             P holds of the refusal of every row, where the row holds
 --     given           so P holds of the one that the order gives
---     all_join        and of those of an order that goes on
+--     all_join           and of those of an order that goes on
 -- Assumes nothing.
 use mathlib.Core.Bool.{true, false}
 use mathlib.Core.List.{List, [], ◌∷◌, ◌++◌}

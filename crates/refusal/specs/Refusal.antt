@@ -1,8 +1,8 @@
 -- The table of refusals, the manual, "Refusal numbers". Definitions only.
---     refusal_number     the number of a refusal's row [R1] [F5]
---     refusal_place      the place that goes with it: the beat or the line that the case names, and 0 where the table's
+--     refusal_number    the number of a refusal's row [R1] [F5]
+--     refusal_place     the place that goes with it: the beat or the line that the case names, and 0 where the table's
 --                       place is 0 [R1] [F5]
---     refusal_surplus    the surplus of ones that goes with it: what 6 says, and 0 for every other [Q2] [R1] [F5]
+--     refusal_surplus   the surplus of ones that goes with it: what 6 says, and 0 for every other [Q2] [R1] [F5]
 use Rattle.std.specs.Prelude.{ℕ, ℤ, pos}
 use Rattle.refusal.specs.declared.Refusal.{Refusal}
 use Rattle.refusal.specs.declared.Refusal.TheVariants.{

@@ -40,7 +40,8 @@ place-mem (y ∷ l) (suc i) h = Memᴰ.tail (place-mem l i (omega arith))
 mem-as : {x y : List ℕ} {l : List (List ℕ)} → x ≡ y → Memᴰ y l → Memᴰ x l
 mem-as {l = l} e m = subst (λ (z : List ℕ). Memᴰ z l) (sym e) m
 
-distinct-once : {l : List (List ℕ)} → Distinct l → (i j : ℕ) → i < length l → j < length l → get_or l i [] ≡ get_or l j []
+distinct-once : {l : List (List ℕ)} → Distinct l → (i j : ℕ) → i < length l → j < length l
+    → get_or l i [] ≡ get_or l j []
     → i ≡ j
 distinct-once nothing i j h k e = absurd (omega arith)
 distinct-once (more n d) zero zero h k e = refl

@@ -32,7 +32,8 @@ use Rattle.schedule.proofs.Hand.{
   zeros-turn,
 }
 
-pub map_at : (f : List ℕ → List ℕ) (l : List (List ℕ)) (i : ℕ) → i < length l → get_or (map f l) i [] ≡ f (get_or l i [])
+pub map_at : (f : List ℕ → List ℕ) (l : List (List ℕ)) (i : ℕ) → i < length l
+    → get_or (map f l) i [] ≡ f (get_or l i [])
 map_at f [] i h = absurd (omega arith)
 map_at f (x ∷ l) zero h = refl
 map_at f (x ∷ l) (suc i) h = map_at f l i (omega arith)
@@ -123,7 +124,8 @@ module _ (P Q : List ℕ → Type 0) (a c : List (List ℕ)) (p : Lists P a) (q 
       same : (i j : ℕ) → Side (length a) (length c) i → Side (length a) (length c) j
           → get_or (joined a c) i [] ≡ get_or (joined a c) j [] → i ≡ j
       same i j (left h) (left k) e =
-          let rest : get_or a i [] ≡ get_or a j [] = cc (joined-left a c i h, joined-left a c j k) in p.once i j h k rest
+          let rest : get_or a i [] ≡ get_or a j [] =
+          cc (joined-left a c i h, joined-left a c j k) in p.once i j h k rest
       same i j (left h) (right n f l) e =
           let clash : ◌≡◌ {A = ℕ} 1 0 = cc (joined-left a c i h, joined-right a c j n f l) in absurd (omega arith)
       same i j (right m f h) (left k) e =

@@ -108,7 +108,8 @@ module _ (b : List ℕ) where
       by (suc (suc x)) q before = absurd (bad k l (omega arith))
 
   module _ (t s : ℕ) where
-    pub passed-schedule : length b ≡ t + s → length b ≤ bad_beat b → length b ≤ empty_hand b → ones b ≡ t → Schedule t s b
+    pub passed-schedule : length b ≡ t + s → length b ≤ bad_beat b → length b ≤ empty_hand b → ones b ≡ t
+        → Schedule t s b
     passed-schedule n f e o = record {
       beats = sound-beats b f;
       size = n;

@@ -78,7 +78,8 @@ skipped-skips {b} {from} {v} {r} h e =
       high = omega (arith, f.high, e);
       run = λ k l m. eqb-true (get_or b k 0) v (not-false (eqb (get_or b k 0) v) (f.before k l (omega (arith, e))));
       stop = λ l same.
-          eqb-false (get_or b r 0) v (not-true (eqb (get_or b r 0) v) (ap (is_other b v) e ∙ f.holds (omega (arith, e))))
+          eqb-false (get_or b r 0) v (not-true (eqb (get_or b r 0) v) (ap (is_other b v) e ∙ f.holds
+          (omega (arith, e))))
           same;
     }
 

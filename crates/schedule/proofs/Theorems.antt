@@ -7,7 +7,7 @@
 --                                              [Q1] [F7]
 --     off-six                                  so a surplus that is not 0 is given with 6 alone [Q2]
 --     six-near                                 it is from −⌊(t − s)/2⌋ to s, because 5 goes before 6 [Q4]
---     is_schedule-true, true-is_schedule         the test of specs/Schedule.antt holds exactly of the schedules [A8]
+--     is_schedule-true, true-is_schedule       the test of specs/Schedule.antt holds exactly of the schedules [A8]
 --     N-schedules, lists-N                     some list has every schedule of t, s exactly once and is N(t, s) long,
 --                                              and so is every such list [D3a] [N1]
 -- Assumes nothing.

@@ -1,15 +1,16 @@
 -- The check of a lent list of beats, the manual, "Refusal numbers" (rows 1 to 6, and Order: schedules). Definitions
 -- only.
---     bad_beat       the first beat that is neither 0 nor 1; the length where there is none
---     empty_hand     the first beat that sets down with nothing in hand: a 0 with no more ones than zeros before it; the
+--     bad_beat      the first beat that is neither 0 nor 1; the length where there is none
+--     empty_hand    the first beat that sets down with nothing in hand: a 0 with no more ones than zeros before it; the
 --                   length where there is none
---     surplus_of     how many ones there are beyond t, as integers: below 0 where some are missing [Q1] [F7]
---     hand_rows      the refusals that zeros and ones of the right length can get, in their order: 5, 6
---     play_rows      the same of beats of any value: 4 over all beats first
---     beat_rows      the same of beats of any length: 3 first
---     check_rows     the refusals that a lent schedule can get, in their order: those of its counts first [R9]
+--     surplus_of    how many ones there are beyond t, as integers: below 0 where some are missing [Q1] [F7]
+--     hand_rows     the refusals that zeros and ones of the right length can get, in their order: 5, 6
+--     play_rows     the same of beats of any value: 4 over all beats first
+--     beat_rows     the same of beats of any length: 3 first
+--     check_rows    the refusals that a lent schedule can get, in their order: those of its counts first [R9]
 --     checked       the verdict on it
-use Rattle.std.specs.Prelude.{Bool, not, ◌&&◌, List, [], ◌∷◌, ◌++◌, ℕ, ◌+◌, eqb, leb, ltb, ℤ, pos, ◌-ℤ◌, length, get_or, take}
+use Rattle.std.specs.Prelude.{Bool, not, ◌&&◌, List, [], ◌∷◌, ◌++◌, ℕ, ◌+◌, eqb, leb, ltb, ℤ, pos, ◌-ℤ◌, length, get_or}
+use Rattle.std.specs.Prelude.{take}
 use Rattle.bounded.specs.Bounded.{first}
 use Rattle.refusal.specs.declared.Refusal.TheVariants.{WrongLength, BadBeat, EmptyHand, WrongTakeUps}
 use Rattle.refusal.specs.declared.Verdict.{Verdict}

@@ -9,7 +9,8 @@
 --     Refuses         when each refusal is given: its row holds, and no row before it does [R4]
 --     Right           the right verdict: accepted exactly if the beats are a schedule of allowed counts, else the
 --                     refusal
-use Rattle.std.specs.Prelude.{List, ◌≢◌, ◌≡◌, ℕ, ◌+◌, ◌-◌, ◌/◌, ◌≤◌, ◌<◌, ℤ, pos, neg_ℤ, ◌+ℤ◌, ◌≤ℤ◌, length, get_or, take}
+use Rattle.std.specs.Prelude.{List, ◌≢◌, ◌≡◌, ℕ, ◌+◌, ◌-◌, ◌/◌, ◌≤◌, ◌<◌, ℤ, pos, neg_ℤ, ◌+ℤ◌, ◌≤ℤ◌, length, get_or}
+use Rattle.std.specs.Prelude.{take}
 use Rattle.refusal.specs.declared.Refusal.{Refusal}
 use Rattle.refusal.specs.declared.Refusal.TheVariants.{TooManyTasks, MoreDownThanUp, WrongLength}
 use Rattle.refusal.specs.declared.Refusal.TheVariants.{BadBeat, EmptyHand, WrongTakeUps}

@@ -2,11 +2,12 @@
 --     ones, zeros     how many beats are 1, and how many are 0
 --     Schedule        a list of t + s beats, each 0 or 1, with exactly t ones, in which every prefix has at least as
 --                     many ones as zeros [A1]
---     is_schedule      the same as a test that can be computed, part by part; proofs/Theorems.antt shows that it says
+--     is_schedule     the same as a test that can be computed, part by part; proofs/Theorems.antt shows that it says
 --                     the same [A8]
 --     Lists           a list l has everything of which P holds, each once, and nothing else; Lists (Schedule t s) l: l
 --                     lists the schedules of t, s [N1]
-use Rattle.std.specs.Prelude.{Bool, ◌&&◌, List, [], ◌∷◌, ◌≡◌, ℕ, zero, suc, ◌+◌, ◌≤◌, ◌<◌, leb, eqb, length, get_or, take}
+use Rattle.std.specs.Prelude.{Bool, ◌&&◌, List, [], ◌∷◌, ◌≡◌, ℕ, zero, suc, ◌+◌, ◌≤◌, ◌<◌, leb, eqb, length, get_or}
+use Rattle.std.specs.Prelude.{take}
 use Rattle.bounded.specs.Bounded.{every}
 
 unfoldable pub ones : List ℕ → ℕ

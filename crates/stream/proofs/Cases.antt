@@ -14,7 +14,7 @@ use Rattle.record.specs.Bytes.{value_of}
 use Rattle.stream.specs.declared.Front.{Front}
 use Rattle.stream.specs.declared.Pass.{Pass}
 use Rattle.stream.specs.declared.Stream.{Stream}
-use Rattle.stream.specs.Stream.{verdict_on, passing, passed, ending, ends, list_from, list_of, settled, front_of, Own}
+use Rattle.stream.specs.Stream.{verdict_on, passing, passed, ending, ends, list_from, list_of, settled, front_of, front_number, Own}
 use Rattle.stream.specs.Exchange.{
   between,
   window,
@@ -143,6 +143,13 @@ front-end = refl
 front-whole : front_of false (0 ∷ 0 ∷ []) ≡ Front.Record
 unfolding value_of
 front-whole = refl
+
+-- the numbers that a C host is told
+number-record : front_number Front.Record ≡ 0
+number-record = refl
+
+number-over : front_number Front.Over ≡ 2
+number-over = refl
 
 bell-own : Own bell
 bell-own src rest e = refl

@@ -48,7 +48,8 @@ module _ (line : List ℕ → List ℕ) (widest : ℕ) (ended : Bool) (src out :
         subst (λ (n : ℕ). Lines line widest ended n src text left front) all q;
   }
 
-  pub going-rests : {at put : ℕ} {now : List ℕ} {front : Front} → Going at put now → front_of ended (tail src at) ≡ front
+  pub going-rests : {at put : ℕ} {now : List ℕ} {front : Front} → Going at put now
+      → front_of ended (tail src at) ≡ front
       → (front ≡ Front.Record → length out - put < widest)
       → Passes line widest ended src out (record { consumed = at; bytes = put; front = front }) now
   going-rests {at} {put} {now} {front} g e i =

@@ -1,18 +1,19 @@
 -- The list of a stream of order records, the manual, "The packing list": what a program prints of an input, by
 -- the line that it prints of each record. Definitions only.
---     verdict_on        the verdict on the record that a slice starts with, read with room for the longest schedule
+--     verdict_on       the verdict on the record that a slice starts with, read with room for the longest schedule
 --     passing, passed  the bytes to pass over, after a verdict and of a record
 --     ending, ends     the list ends after the line of a 9 [E4]
---     list_from         the list of at most so many records
---     list_of           the whole list of an input: the line of the record that it starts with and, where that is no 9,
+--     list_from        the list of at most so many records
+--     list_of          the whole list of an input: the line of the record that it starts with and, where that is no 9,
 --                      the list of what follows; of no bytes, nothing. Each record takes a byte at least, so that as
 --                      many records as bytes are enough [E14]
 --     settled          the record is judged the same whatever follows: it is whole, or its length is above the longest
---     front_of          what stands at the front of the unread bytes: a record that can be listed, one that waits for
+--     front_of         what stands at the front of the unread bytes: a record that can be listed, one that waits for
 --                      more input or, at the end of the input, nothing more
 --     front_number     a number for each, as a C host is told it [E18]
 --     Own              the line of a record depends on no byte after it
-use Rattle.std.specs.Prelude.{Bool, true, false, cond, ◌&&◌, ◌||◌, List, [], ◌∷◌, ◌++◌, ◌≡◌, ℕ, zero, suc, ◌+◌, eqb, leb, ltb, length, drop}
+use Rattle.std.specs.Prelude.{Bool, true, false, cond, ◌&&◌, ◌||◌, List, [], ◌∷◌, ◌++◌, ◌≡◌, ℕ, zero, suc, ◌+◌, eqb}
+use Rattle.std.specs.Prelude.{leb, ltb, length, drop}
 use Rattle.refusal.specs.declared.Verdict.{Verdict}
 use Rattle.refusal.specs.Refusal.{refusal_number}
 use Rattle.refusal.specs.Rows.{judge}

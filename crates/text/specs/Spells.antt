@@ -1,5 +1,5 @@
 -- What it means that a text is a number in decimal, as the manual says of the numbers of a line. Definitions only.
---     digits_value v d     the number that the digits d say after those of v; from v = 0 on, the number that they say
+--     digits_value v d    the number that the digits d say after those of v; from v = 0 on, the number that they say
 --     Spells n d          d is one digit or more, they say n, and the first of several is not 0
 --     Says z d            d is how an integer is written: as a number, with a - before it where it is below 0
 use Rattle.std.specs.Prelude.{List, [], ◌∷◌, ◌≡◌, ℕ, suc, ◌+◌, ◌-◌, ◌*◌, ◌≤◌, ◌<◌, ℤ, pos, negsuc, length, get_or}

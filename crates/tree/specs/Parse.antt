@@ -2,7 +2,7 @@
 --     grow         a 1 makes one tree of the first two
 --     parse        the trees whose words, one after the other, make the beats
 --     foremost     the first of some trees
---     tree_of b     the tree whose word is b with one leaf more; proofs/Theorems.antt shows that it is the only one
+--     tree_of b    the tree whose word is b with one leaf more; proofs/Theorems.antt shows that it is the only one
 use Rattle.std.specs.Prelude.{List, [], ◌∷◌, ◌++◌, ℕ, zero, suc}
 use Rattle.tree.specs.Tree.{Tree, leaf, node}
 

@@ -3,8 +3,8 @@
 --     Has          b is the word of a tree of n nodes with the final leaf left out, and l, r, p are the tree's tables,
 --                  its nodes numbered 1 to n; the root's parent is 0 [O4]
 --     fits         lengths of a schedule of 2n beats and of three tables of n
---     size_rows     the refusals by length, in their order: 1, 3; lent_rows, of what is lent [R17]
---     tree_rows     the refusals of a schedule and of the tables lent for it, in their order: 1, 3, then 4, 5, 6 [R17]
+--     size_rows    the refusals by length, in their order: 1, 3; lent_rows, of what is lent [R17]
+--     tree_rows    the refusals of a schedule and of the tables lent for it, in their order: 1, 3, then 4, 5, 6 [R17]
 --     Treed        what the way from a schedule to its tables answers and leaves: the tables of its tree, or, refused,
 --                  what was there [T4]
 use Rattle.std.specs.Prelude.{Bool, not, ◌&&◌, List, [], ◌∷◌, ◌++◌, ◌≡◌, ℕ, ◌+◌, eqb, ltb, length}

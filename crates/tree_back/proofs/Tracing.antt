@@ -177,7 +177,8 @@ module _ {n : ℕ} {l r p : List ℕ} {at k own c d : ℕ} {st buf : List ℕ} (
 
   -- the same in the words of the code
   pub trace-leaf : c ≡ 0 → ((d ≡ 0) → ⊥)
-      → Traced-to n l r p (at + 1) k (get_or st (d - 1) 0) (get_or r (get_or st (d - 1) 0 - 1) 0) (d - 1) st (set buf at 0)
+      → Traced-to n l r p (at + 1) k (get_or st (d - 1) 0) (get_or r (get_or st (d - 1) 0 - 1) 0) (d - 1) st
+      (set buf at 0)
   trace-leaf z m =
       let f : d ≡ suc (d - 1) = omega (arith, m) in
       rw (add-one at)
@@ -291,7 +292,8 @@ module _ {n : ℕ} {l r p : List ℕ} {at k own c d : ℕ} {st buf : List ℕ} (
         f.parent,
       )
 
-  pub trace-other : ((c ≡ 0) → ⊥) → ((k < n) × (c ≡ suc k) × (get_or p k 0 ≡ own) → ⊥) → (b : List ℕ) → Has n b l r p → ⊥
+  pub trace-other : ((c ≡ 0) → ⊥) → ((k < n) × (c ≡ suc k) × (get_or p k 0 ≡ own) → ⊥) → (b : List ℕ) → Has n b l r p
+      → ⊥
   trace-other z f = none_has n l r p (λ t q m. f (beyond z t q m))
 
   module _ (e : n + n ≤ at) where

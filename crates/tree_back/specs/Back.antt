@@ -14,4 +14,5 @@ pub data Untreed (n : ℕ) (l r p b : List ℕ) : Verdict → List ℕ → Type 
       → Untreed n l r p b Verdict.Accepted b'
   none : judge (lent_rows n b l r p) ≡ Verdict.Accepted → ((c : List ℕ) → Has n c l r p → ⊥)
       → Untreed n l r p b (Verdict.Refused NoSuchTables) b
-  unfit : {why : Refusal} → judge (lent_rows n b l r p) ≡ Verdict.Refused why → Untreed n l r p b (Verdict.Refused why) b
+  unfit : {why : Refusal} → judge (lent_rows n b l r p) ≡ Verdict.Refused why
+      → Untreed n l r p b (Verdict.Refused why) b

@@ -1,5 +1,5 @@
 -- What the inner functions answer and leave. Definitions only.
---     root_number n      the root of a tree of n nodes, 0 where there is none
+--     root_number n     the root of a tree of n nodes, 0 where there is none
 --     is_next p k c own  c is node k + 1, the next in preorder, and its parent is own
 --     Traced            what reading tables of n entries from the root on has found: b is the schedule that has them,
 --                       or none has

@@ -43,7 +43,8 @@ module _ (t s row : ℕ) where
 -- whether the n rows of the table from a first one on, each up to s = t, are the list
 agree : List ℕ → ℕ → ℕ → Bool
 agree l first n =
-    every (λ k. every (λ s. eqb (at (first + k) s) (get_or l (cell (first + k) s - cell first 0) 0)) (suc (first + k))) n
+    every (λ k. every (λ s. eqb (at (first + k) s) (get_or l (cell (first + k) s - cell first 0) 0)) (suc (first + k)))
+    n
 
 agree_at : (l : List ℕ) (first n : ℕ) → T (agree l first n)
     → (t s : ℕ) → first ≤ t → t < first + n → s ≤ t → at t s ≡ get_or l (cell t s - cell first 0) 0
@@ -54,7 +55,8 @@ agree_at l first n h t s from below k =
     (eqb→eq (at (first + (t - first)) s) (get_or l (cell (first + (t - first)) s - cell first 0) 0)
     (every-T (λ j. eqb (at (first + (t - first)) j) (get_or l (cell (first + (t - first)) j - cell first 0) 0))
     (suc (first + (t - first)))
-    (every-T (λ i. every (λ j. eqb (at (first + i) j) (get_or l (cell (first + i) j - cell first 0) 0)) (suc (first + i)))
+    (every-T (λ i. every (λ j. eqb (at (first + i) j) (get_or l (cell (first + i) j - cell first 0) 0))
+    (suc (first + i)))
     n h (t - first) (omega arith))
     s (omega arith)))
 
@@ -75,7 +77,8 @@ low-at t s h k =
     let from_zero : cell t s - 0 ≡ cell t s = omega arith in
     subst (λ i. at t s ≡ get_or low i 0) from_zero (agree_at low 0 middle_row low-agrees t s (omega arith) h k)
 
-pub middle-at : (t s : ℕ) → middle_row ≤ t → t < high_row → s ≤ t → at t s ≡ get_or middle (cell t s - cell middle_row 0) 0
+pub middle-at : (t s : ℕ) → middle_row ≤ t → t < high_row → s ≤ t
+    → at t s ≡ get_or middle (cell t s - cell middle_row 0) 0
 middle-at t s from h k = agree_at middle middle_row (high_row - middle_row) middle-agrees t s from h k
 
 pub high-at : (t s : ℕ) → high_row ≤ t → t ≤ largest → s ≤ t → at t s ≡ get_or high (cell t s - cell high_row 0) 0

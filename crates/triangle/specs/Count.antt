@@ -1,7 +1,7 @@
 -- How many forms there are, the manual, "A schedule" (sizes) and "How many forms". Definitions only.
 --     largest     the largest number of tasks that a schedule takes up; the only place of the definitions that names it
 --                 [A5]
---     most_beats   the beats of the longest schedule
+--     most_beats  the beats of the longest schedule
 --     N t s       the number of schedules of t ones and s zeros, by its addition rule; 0 where s is above t [N4]
 --     C n k       how many ways there are to take k of n things, by Pascal's rule [N3]
 --     counted     N for the counts that are allowed, and 0 for more tasks than the largest number

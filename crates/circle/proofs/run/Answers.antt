@@ -14,7 +14,8 @@ use Rattle.circle.proofs.run.Goals as goal
 
 pub walk-requires : goal.walk-requires
 walk-requires c =
-    let accepted : judge (run_rows c.args.t c.args.s (c.args.beats.now) c.args.k) ≡ Verdict.Accepted = sym c.may_run-verdict.ensures ∙ c.in-Accepted.is in
+    let accepted : judge (run_rows c.args.t c.args.s (c.args.beats.now) c.args.k) ≡ Verdict.Accepted =
+    sym c.may_run-verdict.ensures ∙ c.in-Accepted.is in
     let args = c.args in
     let allowed = run-allowed args.t args.s (c.args.beats.now) args.k (accepted) in
     (accepted-form args.t args.s (c.args.beats.now) allowed.0, omega (arith, allowed.1))

@@ -14,7 +14,8 @@ use Rattle.circle_back.proofs.run_back.Goals as goal
 
 pub walk_back-requires : goal.walk_back-requires
 walk_back-requires c =
-    let accepted : judge (run_rows c.args.t c.args.s (c.args.beats.now) c.args.k) ≡ Verdict.Accepted = sym c.may_run-verdict.ensures ∙ c.in-Accepted.is in
+    let accepted : judge (run_rows c.args.t c.args.s (c.args.beats.now) c.args.k) ≡ Verdict.Accepted =
+    sym c.may_run-verdict.ensures ∙ c.in-Accepted.is in
     let args = c.args in
     let allowed = run-allowed args.t args.s (c.args.beats.now) args.k (accepted) in
     (accepted-form args.t args.s (c.args.beats.now) allowed.0, omega (arith, allowed.1))

@@ -15,7 +15,8 @@ pub overflow_add-sum : goal.overflow_add-sum
 overflow_add-sum c =
     let turn : Walked goes_back c.args.beats.now c.step_back-sum.new.beats
     (c.loop.counter + 1)
-    (c.loop.sum + c.step_back-sum.result) = walked-turn goes_back c.args.beats.now c.loop.beats c.step_back-sum.new.beats
+    (c.loop.sum + c.step_back-sum.result) =
+    walked-turn goes_back c.args.beats.now c.loop.beats c.step_back-sum.new.beats
     c.loop.counter c.loop.sum c.step_back-sum.result
     c.loop.invariant.1 c.step_back-sum.auto.beats c.step_back-sum.ensures.beats_after c.step_back-sum.ensures.value in
     omega (arith, turn.few, c.loop.invariant.0, c.requires.1)
@@ -24,7 +25,8 @@ pub loop-preserved : goal.loop-preserved
 loop-preserved c =
     let turn : Walked goes_back c.args.beats.now c.step_back-sum.new.beats
     (c.loop.counter + 1)
-    (c.loop.sum + c.step_back-sum.result) = walked-turn goes_back c.args.beats.now c.loop.beats c.step_back-sum.new.beats
+    (c.loop.sum + c.step_back-sum.result) =
+    walked-turn goes_back c.args.beats.now c.loop.beats c.step_back-sum.new.beats
     c.loop.counter c.loop.sum c.step_back-sum.result
     c.loop.invariant.1 c.step_back-sum.auto.beats c.step_back-sum.ensures.beats_after c.step_back-sum.ensures.value in
     (search rules, turn)

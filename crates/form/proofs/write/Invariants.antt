@@ -25,7 +25,7 @@ use Rattle.form.proofs.Writing.{
 use Rattle.form.proofs.write.Given as goal
 
 abbrev pub invariant-loop-k : goal.invariant-loop-k
-invariant-loop-k l =    (length l.out ≡ length l.initial.out) × Behind l.t l.s l.number l.out l.at l.p l.k l.all l.low
+invariant-loop-k l = (length l.out ≡ length l.initial.out) × Behind l.t l.s l.number l.out l.at l.p l.k l.all l.low
 
 abbrev pub decreases-loop-k : goal.decreases-loop-k
 decreases-loop-k l = l.at

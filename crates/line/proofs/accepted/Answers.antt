@@ -10,7 +10,8 @@ use Rattle.line.proofs.accepted.Goals as goal
 
 pub put-requires : goal.put-requires
 put-requires c =
-    let past-t : (c.field-past_t.result ≤ 21) × (length c.field-past_t.new.out ≡ length c.args.out.now) = (omega (arith, c.field-past_t.ensures.upper_bound), c.field-past_t.auto.out) in
+    let past-t : (c.field-past_t.result ≤ 21) × (length c.field-past_t.new.out ≡ length c.args.out.now) =
+    (omega (arith, c.field-past_t.ensures.upper_bound), c.field-past_t.auto.out) in
     let past-s : (c.field-past_s.result ≤ 42) × (length c.field-past_s.new.out ≡ length c.args.out.now) = (
       omega (arith, c.field-past_s.ensures.upper_bound, past-t),
       c.field-past_s.auto.out ∙ past-t.1,
@@ -19,7 +20,8 @@ put-requires c =
       omega (arith, c.field-past_number.ensures.upper_bound, past-s),
       c.field-past_number.auto.out ∙ past-s.1,
     ) in
-    let past-beats : c.beat_text-past_beats.result < length c.args.out.now = ⊎_elim (λ one. omega (arith, c.beat_text-past_beats.ensures.end, past-number, c.requires.0))
+    let past-beats : c.beat_text-past_beats.result < length c.args.out.now =
+    ⊎_elim (λ one. omega (arith, c.beat_text-past_beats.ensures.end, past-number, c.requires.0))
     (λ each. omega (arith, c.beat_text-past_beats.ensures.end, past-number, c.requires.1))
     (text-fits c.args.beats.now) in
     omega (arith, past-beats, c.beat_text-past_beats.auto.out, past-number)

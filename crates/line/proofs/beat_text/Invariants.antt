@@ -11,7 +11,9 @@ use borrow.Author.Rules.{rules}
 use Rattle.line.proofs.beat_text.Given as goal
 
 abbrev pub invariant-loop-i : goal.invariant-loop-i
-invariant-loop-i l =    (l.i ≤ length l.beats) × (l.out ≡ paste l.initial.out l.at (glyphs l.beats) l.i) × (length l.out ≡ length l.initial.out)
+invariant-loop-i l =
+    (l.i ≤ length l.beats) × (l.out ≡ paste l.initial.out l.at (glyphs l.beats) l.i)
+    × (length l.out ≡ length l.initial.out)
 
 abbrev pub decreases-loop-i : goal.decreases-loop-i
 decreases-loop-i l = length l.beats - l.i

@@ -15,7 +15,8 @@ use Rattle.line.proofs.refused_text.Goals as goal
 
 pub returns : goal.returns
 returns c =
-    let read : to_z w32 (of_z w32 c.surplus.result) ≡ c.surplus.result = to_z-of_z w32 c.surplus.result (record { sfits = c.surplus.type_inv }) in
+    let read : to_z w32 (of_z w32 c.surplus.result) ≡ c.surplus.result =
+    to_z-of_z w32 c.surplus.result (record { sfits = c.surplus.type_inv }) in
     let past-number : (c.field-past_number.result ≤ 29) × (length c.field-past_number.new.out ≡ length c.args.out.now) = (
       omega (arith, c.field-past_number.ensures.upper_bound, c.copy-past_word.ensures.size),
       c.field-past_number.auto.out ∙ c.copy-past_word.auto.to,
@@ -24,8 +25,13 @@ returns c =
       omega (arith, c.field-past_place.ensures.upper_bound, past-number),
       c.field-past_place.auto.out ∙ past-number.1,
     ) in
-    let few : length (signed (to_z w32 (of_z w32 c.surplus.result))) ≤ 21 = subst (λ (z : ℤ). length (signed z) ≤ 21) (sym (read)) (signed-fits c.surplus.result c.surplus.type_inv) in
-    record { written = written-refused c.args.why c.number.ensures c.place.ensures
+    let few : length (signed (to_z w32 (of_z w32 c.surplus.result))) ≤ 21 =
+    subst (λ (z : ℤ). length (signed z) ≤ 21) (sym (read)) (signed-fits c.surplus.result c.surplus.type_inv) in
+    record {
+      written = written-refused c.args.why c.number.ensures c.place.ensures
           (read ∙ c.surplus.ensures)
           (record { text = c.copy-past_word.ensures.text; end = c.copy-past_word.ensures.size })
-          c.field-past_number.ensures.written c.field-past_place.ensures.written c.signed.ensures; upper_bound = omega (arith, c.signed.ensures.end, past-place, few) }
+          c.field-past_number.ensures.written c.field-past_place.ensures.written c.signed.ensures;
+      upper_bound =
+          omega (arith, c.signed.ensures.end, past-place, few);
+    }

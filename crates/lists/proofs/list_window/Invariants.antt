@@ -22,7 +22,9 @@ use Rattle.stream.specs.contracts.Front.{the_type}
 use Rattle.lists.proofs.list_window.Given as goal
 
 abbrev pub invariant-loop-room : goal.invariant-loop-room
-invariant-loop-room l =    (length l.room ≡ length l.initial.room) × Going (line_of l.which) widest l.ended l.src l.initial.text l.at l.put l.text
+invariant-loop-room l =
+    (length l.room ≡ length l.initial.room)
+    × Going (line_of l.which) widest l.ended l.src l.initial.text l.at l.put l.text
 
 abbrev pub decreases-loop-room : goal.decreases-loop-room
 decreases-loop-room l = length l.src - l.at

@@ -21,25 +21,31 @@ use Rattle.lists.proofs.miscounted.Goals as goal
 
 pub ones_found-found-requires : goal.ones_found-found-requires
 ones_found-found-requires c =
-    let read : to_z w32 (of_z w32 c.surplus.result) ≡ refusal_surplus c.args.why = to_z-of_z w32 c.surplus.result (record { sfits = c.surplus.type_inv }) ∙ c.surplus.ensures in
+    let read : to_z w32 (of_z w32 c.surplus.result) ≡ refusal_surplus c.args.why =
+    to_z-of_z w32 c.surplus.result (record { sfits = c.surplus.type_inv }) ∙ c.surplus.ensures in
     let is-six : refusal_number c.args.why ≡ 6 = sym c.number.ensures ∙ c.if-number-eq6.true in
     let there : let args = c.args in
     (4 ≤ length args.src.now)
-    × (refusal_surplus args.why +ℤ pos (ups args.src.now) ≡ pos (ones_in args.src.now)) = six-there c.args.src.now c.requires.0 (is-six) in
+    × (refusal_surplus args.why +ℤ pos (ups args.src.now) ≡ pos (ones_in args.src.now)) =
+    six-there c.args.src.now c.requires.0 (is-six) in
     let sum : let src = c.args.src.now in
-    to_z w32 (of_z w32 c.surplus.result) +ℤ pos c.asked-asked.result ≡ pos (ones_in src) = ap₂ (λ (z : ℤ) (a : ℕ). z +ℤ pos a) (read) c.asked-asked.ensures.value
+    to_z w32 (of_z w32 c.surplus.result) +ℤ pos c.asked-asked.result ≡ pos (ones_in src) =
+    ap₂ (λ (z : ℤ) (a : ℕ). z +ℤ pos a) (read) c.asked-asked.ensures.value
     ∙ there.1 in
     (omega (arith, c.asked-asked.ensures.upper_bound), (ones_in c.args.src.now, sum))
 
 pub returns-then-number-eq6 : goal.returns-then-number-eq6
 returns-then-number-eq6 c =
-    let read : to_z w32 (of_z w32 c.surplus.result) ≡ refusal_surplus c.args.why = to_z-of_z w32 c.surplus.result (record { sfits = c.surplus.type_inv }) ∙ c.surplus.ensures in
+    let read : to_z w32 (of_z w32 c.surplus.result) ≡ refusal_surplus c.args.why =
+    to_z-of_z w32 c.surplus.result (record { sfits = c.surplus.type_inv }) ∙ c.surplus.ensures in
     let is-six : refusal_number c.args.why ≡ 6 = sym c.number.ensures ∙ c.if-number-eq6.true in
     let there : let args = c.args in
     (4 ≤ length args.src.now)
-    × (refusal_surplus args.why +ℤ pos (ups args.src.now) ≡ pos (ones_in args.src.now)) = six-there c.args.src.now c.requires.0 (is-six) in
+    × (refusal_surplus args.why +ℤ pos (ups args.src.now) ≡ pos (ones_in args.src.now)) =
+    six-there c.args.src.now c.requires.0 (is-six) in
     let sum : let src = c.args.src.now in
-    to_z w32 (of_z w32 c.surplus.result) +ℤ pos c.asked-asked.result ≡ pos (ones_in src) = ap₂ (λ (z : ℤ) (a : ℕ). z +ℤ pos a) (read) c.asked-asked.ensures.value
+    to_z w32 (of_z w32 c.surplus.result) +ℤ pos c.asked-asked.result ≡ pos (ones_in src) =
+    ap₂ (λ (z : ℤ) (a : ℕ). z +ℤ pos a) (read) c.asked-asked.ensures.value
     ∙ there.1 in
     let args = c.args in
     let ones : c.ones_found-found.result ≡ ones_in args.src.now =

@@ -20,14 +20,18 @@ use Rattle.lists.proofs.outlined.Goals as goal
 
 pub print-past_outline-requires : goal.print-past_outline-requires
 print-past_outline-requires c =
-    let closed : Schedule c.args.t c.args.t c.args.beats.now = subst (λ (k : ℕ). Schedule c.args.t k c.args.beats.now) (sym c.if-t-s.false) c.requires.0 in
-    let room : length (printed c.args.beats.now) ≤ largest * (largest + 1) = omega (arith, printed-bound (closed), bound-largest c.requires.1) in
+    let closed : Schedule c.args.t c.args.t c.args.beats.now =
+    subst (λ (k : ℕ). Schedule c.args.t k c.args.beats.now) (sym c.if-t-s.false) c.requires.0 in
+    let room : length (printed c.args.beats.now) ≤ largest * (largest + 1) =
+    omega (arith, printed-bound (closed), bound-largest c.requires.1) in
     ((c.args.t, closed), omega (arith, room, c.requires.2))
 
 pub put-requires : goal.put-requires
 put-requires c =
-    let closed : Schedule c.args.t c.args.t c.args.beats.now = subst (λ (k : ℕ). Schedule c.args.t k c.args.beats.now) (sym c.if-t-s.false) c.requires.0 in
-    let room : length (printed c.args.beats.now) ≤ largest * (largest + 1) = omega (arith, printed-bound (closed), bound-largest c.requires.1) in
+    let closed : Schedule c.args.t c.args.t c.args.beats.now =
+    subst (λ (k : ℕ). Schedule c.args.t k c.args.beats.now) (sym c.if-t-s.false) c.requires.0 in
+    let room : length (printed c.args.beats.now) ≤ largest * (largest + 1) =
+    omega (arith, printed-bound (closed), bound-largest c.requires.1) in
     omega (arith, c.print-past_outline.ensures.end, c.print-past_outline.auto.text, room, c.requires.2)
 
 pub returns : goal.returns

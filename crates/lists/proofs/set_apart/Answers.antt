@@ -5,5 +5,6 @@ use Rattle.lists.proofs.set_apart.Goals as goal
 
 pub returns : goal.returns
 returns c =
-    written_then (search rules) (written_then (search rules) c.refused_text-past_text.ensures.written c.put-past_line.ensures)
+    written_then (search rules) (written_then (search rules) c.refused_text-past_text.ensures.written
+    c.put-past_line.ensures)
     c.put.ensures

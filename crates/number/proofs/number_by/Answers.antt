@@ -14,7 +14,8 @@ use Rattle.number.proofs.number_by.Goals as goal
 pub returns-then-ranked : goal.returns-then-ranked
 returns-then-ranked c =
     let ranks : (q : Bool) → c.rank-ranked.result.whole ≡ q
-    → let args = c.args in Ranks args.t args.s args.beats.now q c.rank-ranked.result.number = λ q e. let args = c.args in
+    → let args = c.args in Ranks args.t args.s args.beats.now q c.rank-ranked.result.number = λ q e. let args =
+    c.args in
     subst (λ (w : Bool). Ranks args.t args.s args.beats.now w c.rank-ranked.result.number) e c.rank-ranked.ensures in
     let args = c.args in
     let right = ranks true c.if-ranked.true in
@@ -25,7 +26,8 @@ returns-then-ranked c =
 pub returns-in-Accepted : goal.returns-in-Accepted
 returns-in-Accepted c =
     let ranks : (q : Bool) → c.rank-ranked.result.whole ≡ q
-    → let args = c.args in Ranks args.t args.s args.beats.now q c.rank-ranked.result.number = λ q e. let args = c.args in
+    → let args = c.args in Ranks args.t args.s args.beats.now q c.rank-ranked.result.number = λ q e. let args =
+    c.args in
     subst (λ (w : Bool). Ranks args.t args.s args.beats.now w c.rank-ranked.result.number) e c.rank-ranked.ensures in
     let args = c.args in
     let right =

@@ -36,13 +36,15 @@ use Rattle.number.proofs.rank.Goals as goal
 pub overflow_sub-downs : goal.overflow_sub-downs
 overflow_sub-downs c =
     let first : Skips c.args.beats.now 0 1 (c.skip-up.result) = skipped-skips (omega arith) c.skip-up.ensures in
-    let second : Skips c.args.beats.now (c.skip-up.result) 0 (c.skip-rise.result) = skipped-skips first.high c.skip-rise.ensures in
+    let second : Skips c.args.beats.now (c.skip-up.result) 0 (c.skip-rise.result) =
+    skipped-skips first.high c.skip-rise.ensures in
     second.low
 
 pub returns-then-not-level : goal.returns-then-not-level
 returns-then-not-level c =
     let first : Skips c.args.beats.now 0 1 (c.skip-up.result) = skipped-skips (omega arith) c.skip-up.ensures in
-    let second : Skips c.args.beats.now (c.skip-up.result) 0 (c.skip-rise.result) = skipped-skips first.high c.skip-rise.ensures in
+    let second : Skips c.args.beats.now (c.skip-up.result) 0 (c.skip-rise.result) =
+    skipped-skips first.high c.skip-rise.ensures in
     no-rank c.unranked-then-not-level.result.number c.unranked-then-not-level.ensures
     (λ a p. true≢false
     (sym (front-level (first) (second) p)
@@ -51,20 +53,26 @@ returns-then-not-level c =
 
 pub overflow_sub-number : goal.overflow_sub-number
 overflow_sub-number c =
-    let looked : c.look-number.result ≡ N (c.skip-up.result) (c.skip-rise.result - c.skip-up.result) = c.look-number.ensures in
-    let lead : (c.skip-up.result ≤ c.args.t) × (c.skip-rise.result - c.skip-up.result ≤ c.skip-up.result) = level-parts c.args.t (c.skip-up.result) (c.skip-rise.result - c.skip-up.result)
+    let looked : c.look-number.result ≡ N (c.skip-up.result) (c.skip-rise.result - c.skip-up.result) =
+    c.look-number.ensures in
+    let lead : (c.skip-up.result ≤ c.args.t) × (c.skip-rise.result - c.skip-up.result ≤ c.skip-up.result) =
+    level-parts c.args.t (c.skip-up.result) (c.skip-rise.result - c.skip-up.result)
     (sym c.level.ensures ∙ c.if-not-level.false) in
     omega (arith, looked, N-pos (c.skip-up.result) (c.skip-rise.result - c.skip-up.result) lead.1)
 
 pub loop-at-init : goal.loop-at-init
 loop-at-init c =
     let first : Skips c.args.beats.now 0 1 (c.skip-up.result) = skipped-skips (omega arith) c.skip-up.ensures in
-    let second : Skips c.args.beats.now (c.skip-up.result) 0 (c.skip-rise.result) = skipped-skips first.high c.skip-rise.ensures in
-    let lead : (c.skip-up.result ≤ c.args.t) × (c.skip-rise.result - c.skip-up.result ≤ c.skip-up.result) = level-parts c.args.t (c.skip-up.result) (c.skip-rise.result - c.skip-up.result)
+    let second : Skips c.args.beats.now (c.skip-up.result) 0 (c.skip-rise.result) =
+    skipped-skips first.high c.skip-rise.ensures in
+    let lead : (c.skip-up.result ≤ c.args.t) × (c.skip-rise.result - c.skip-up.result ≤ c.skip-up.result) =
+    level-parts c.args.t (c.skip-up.result) (c.skip-rise.result - c.skip-up.result)
     (sym c.level.ensures ∙ c.if-not-level.false) in
     let counted : (n : ℕ) → n ≡ N (c.skip-up.result) (c.skip-rise.result - c.skip-up.result) - 1
-    → Counted c.args.t c.args.beats.now (c.skip-rise.result) (c.skip-up.result) (c.skip-rise.result - c.skip-up.result) n = λ n e. counted-front (first) (second) lead.0 lead.1 n e in
-    let looked : c.look-number.result ≡ N (c.skip-up.result) (c.skip-rise.result - c.skip-up.result) = c.look-number.ensures in
+    → Counted c.args.t c.args.beats.now (c.skip-rise.result) (c.skip-up.result) (c.skip-rise.result - c.skip-up.result)
+    n = λ n e. counted-front (first) (second) lead.0 lead.1 n e in
+    let looked : c.look-number.result ≡ N (c.skip-up.result) (c.skip-rise.result - c.skip-up.result) =
+    c.look-number.ensures in
     counted _ (ap₂ ◌-◌ (looked) refl)
 
 pub returns-then-not-fits : goal.returns-then-not-fits
@@ -81,15 +89,18 @@ returns-then-not-fits c =
 pub overflow_add-number : goal.overflow_add-number
 overflow_add-number c =
     let inside : c.loop-at.at < length c.args.beats.now = c.loop-at-test.true in
-    let goes : goes_on c.args.t c.loop-at.ups c.loop-at.downs (c.wide-beat.result) ≡ true = sym c.fits.ensures ∙ c.if-not-fits.false in
+    let goes : goes_on c.args.t c.loop-at.ups c.loop-at.downs (c.wide-beat.result) ≡ true =
+    sym c.fits.ensures ∙ c.if-not-fits.false in
     let grown : let beat = c.wide-beat.result in
     Counted c.args.t c.args.beats.now (c.loop-at.at + 1) (c.loop-at.ups + beat)
-    (c.loop-at.downs + (1 - beat)) (c.loop-at.number + c.growth-number.result) = counted-turn c.loop-at.invariant (inside) (c.wide-beat.result) c.growth-number.result c.wide-beat.ensures
+    (c.loop-at.downs + (1 - beat)) (c.loop-at.number + c.growth-number.result) =
+    counted-turn c.loop-at.invariant (inside) (c.wide-beat.result) c.growth-number.result c.wide-beat.ensures
     (goes) c.growth-number.ensures in
     let sizes : Allowed c.args.t c.args.s
     × (length c.args.beats.now ≡ c.args.t + c.args.s) = sized-parts c.args.t c.args.s c.args.beats.now
     (sym c.sized.ensures ∙ c.if-not-sized.false) in
-    let still-few : c.loop-at.ups + c.wide-beat.result ≤ largest = let may = goes_parts c.args.t c.loop-at.ups c.loop-at.downs (c.wide-beat.result) (goes) in
+    let still-few : c.loop-at.ups + c.wide-beat.result ≤ largest = let may =
+    goes_parts c.args.t c.loop-at.ups c.loop-at.downs (c.wide-beat.result) (goes) in
     omega (arith, may.1, sizes.0.0) in
     let turn = c.loop-at in
     let beat = c.wide-beat.result in
@@ -98,10 +109,12 @@ overflow_add-number c =
 pub loop-at-preserved : goal.loop-at-preserved
 loop-at-preserved c =
     let inside : c.loop-at.at < length c.args.beats.now = c.loop-at-test.true in
-    let goes : goes_on c.args.t c.loop-at.ups c.loop-at.downs (c.wide-beat.result) ≡ true = sym c.fits.ensures ∙ c.if-not-fits.false in
+    let goes : goes_on c.args.t c.loop-at.ups c.loop-at.downs (c.wide-beat.result) ≡ true =
+    sym c.fits.ensures ∙ c.if-not-fits.false in
     let grown : let beat = c.wide-beat.result in
     Counted c.args.t c.args.beats.now (c.loop-at.at + 1) (c.loop-at.ups + beat)
-    (c.loop-at.downs + (1 - beat)) (c.loop-at.number + c.growth-number.result) = counted-turn c.loop-at.invariant (inside) (c.wide-beat.result) c.growth-number.result c.wide-beat.ensures
+    (c.loop-at.downs + (1 - beat)) (c.loop-at.number + c.growth-number.result) =
+    counted-turn c.loop-at.invariant (inside) (c.wide-beat.result) c.growth-number.result c.wide-beat.ensures
     (goes) c.growth-number.ensures in
     grown
 

@@ -16,12 +16,14 @@ use Rattle.outline.proofs.fits.Goals as goal
 pub returns-then-n-room : goal.returns-then-n-room
 returns-then-n-room c =
     let half : length (c.args.beats.now) / 2 ≡ (c.requires.0) = omega (arith, c.requires.2.size) in
-    let enough : length (printed (c.args.beats.now)) ≤ (c.requires.0) * ((c.requires.0) + 1) = printed-bound c.requires.2 in
+    let enough : length (printed (c.args.beats.now)) ≤ (c.requires.0) * ((c.requires.0) + 1) =
+    printed-bound c.requires.2 in
     let room = ap (λ (k : ℕ). k * (k + 1)) (half) in
     sym (le-leb (length (printed (c.args.beats.now))) c.args.room (omega (arith, c.if-n-room.true, enough, room)))
 
 pub print-requires : goal.print-requires
 print-requires c =
-    let enough : length (printed (c.args.beats.now)) ≤ (c.requires.0) * ((c.requires.0) + 1) = printed-bound c.requires.2 in
+    let enough : length (printed (c.args.beats.now)) ≤ (c.requires.0) * ((c.requires.0) + 1) =
+    printed-bound c.requires.2 in
     let few : (c.requires.0) * ((c.requires.0) + 1) ≤ largest * (largest + 1) = bound-largest c.requires.1 in
     ((c.requires.0, c.requires.2), omega (arith, enough, few))

@@ -13,7 +13,8 @@ use Rattle.outline.proofs.line.Goals as goal
 
 pub returns-then-long-eq0 : goal.returns-then-long-eq0
 returns-then-long-eq0 c =
-    let top-room : c.args.long ≡ 0 → c.args.start + length (decimal c.args.place) < length c.args.text.now = λ e. let x = c.args.text.now in
+    let top-room : c.args.long ≡ 0 → c.args.start + length (decimal c.args.place) < length c.args.text.now =
+    λ e. let x = c.args.text.now in
     omega (arith, c.requires.1, ap length (number-top x c.args.parent c.args.long c.args.place e)) in
     let args = c.args in
     subst
@@ -25,7 +26,8 @@ returns-then-long-eq0 c =
 pub repeat-requires : goal.repeat-requires
 repeat-requires c =
     let below-room : (c.args.long ≡ 0 → ⊥)
-    → c.args.start + (c.args.long + 1 + length (decimal c.args.place)) < length c.args.text.now = λ some. let x = c.args.text.now in
+    → c.args.start + (c.args.long + 1 + length (decimal c.args.place)) < length c.args.text.now = λ some. let x =
+    c.args.text.now in
     omega (
       arith,
       c.requires,
@@ -36,7 +38,8 @@ repeat-requires c =
 pub put-dot-requires : goal.put-dot-requires
 put-dot-requires c =
     let below-room : (c.args.long ≡ 0 → ⊥)
-    → c.args.start + (c.args.long + 1 + length (decimal c.args.place)) < length c.args.text.now = λ some. let x = c.args.text.now in
+    → c.args.start + (c.args.long + 1 + length (decimal c.args.place)) < length c.args.text.now = λ some. let x =
+    c.args.text.now in
     omega (
       arith,
       c.requires,
@@ -47,7 +50,8 @@ put-dot-requires c =
 pub numeral-end-requires-2 : goal.numeral-end-requires-2
 numeral-end-requires-2 c =
     let below-room : (c.args.long ≡ 0 → ⊥)
-    → c.args.start + (c.args.long + 1 + length (decimal c.args.place)) < length c.args.text.now = λ some. let x = c.args.text.now in
+    → c.args.start + (c.args.long + 1 + length (decimal c.args.place)) < length c.args.text.now = λ some. let x =
+    c.args.text.now in
     omega (
       arith,
       c.requires,
@@ -64,7 +68,8 @@ numeral-end-requires-2 c =
 pub put-requires-2 : goal.put-requires-2
 put-requires-2 c =
     let below-room : (c.args.long ≡ 0 → ⊥)
-    → c.args.start + (c.args.long + 1 + length (decimal c.args.place)) < length c.args.text.now = λ some. let x = c.args.text.now in
+    → c.args.start + (c.args.long + 1 + length (decimal c.args.place)) < length c.args.text.now = λ some. let x =
+    c.args.text.now in
     omega (
       arith,
       c.requires,
@@ -83,7 +88,8 @@ put-requires-2 c =
 pub returns : goal.returns
 returns c =
     let below-room : (c.args.long ≡ 0 → ⊥)
-    → c.args.start + (c.args.long + 1 + length (decimal c.args.place)) < length c.args.text.now = λ some. let x = c.args.text.now in
+    → c.args.start + (c.args.long + 1 + length (decimal c.args.place)) < length c.args.text.now = λ some. let x =
+    c.args.text.now in
     omega (
       arith,
       c.requires,

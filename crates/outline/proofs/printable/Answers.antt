@@ -10,7 +10,8 @@ use Rattle.outline.proofs.printable.Goals as goal
 
 pub fits-requires : goal.fits-requires
 fits-requires c =
-    let closing : judge (closed_rows c.args.t c.args.s c.args.beats.now) ≡ Verdict.Accepted = sym c.closed-verdict.ensures ∙ c.in-Accepted.is in
+    let closing : judge (closed_rows c.args.t c.args.s c.args.beats.now) ≡ Verdict.Accepted =
+    sym c.closed-verdict.ensures ∙ c.in-Accepted.is in
     let args = c.args in
     let q = closed-schedule args.t args.s args.beats.now (closing) in
     (args.t, q.1, q.2)

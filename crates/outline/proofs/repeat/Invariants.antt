@@ -11,7 +11,9 @@ use borrow.Author.Rules.{rules}
 use Rattle.outline.proofs.repeat.Given as goal
 
 abbrev pub invariant-loop-i : goal.invariant-loop-i
-invariant-loop-i l =    (l.i ≤ l.long) × (length l.text ≡ length l.initial.text) × Written l.to (part l.initial.text l.from l.i) l.initial.text l.text (l.to + l.i)
+invariant-loop-i l =
+    (l.i ≤ l.long) × (length l.text ≡ length l.initial.text)
+    × Written l.to (part l.initial.text l.from l.i) l.initial.text l.text (l.to + l.i)
 
 abbrev pub decreases-loop-i : goal.decreases-loop-i
 decreases-loop-i l = l.long - l.i

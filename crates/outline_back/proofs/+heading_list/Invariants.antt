@@ -16,7 +16,8 @@ decreases-list l = l.left + l.left + 1
 abbrev pub invariant-list-loop-lines : goal.invariant-list-loop-lines
 invariant-list-loop-lines l =
     (length l.beats ≡ length l.initial.beats)
-    × Going (part l.text l.parent l.long) l.text l.from l.left l.at l.initial.beats l.byte l.beat l.lines l.place l.beats
+    × Going (part l.text l.parent l.long) l.text l.from l.left l.at l.initial.beats l.byte l.beat l.lines l.place
+    l.beats
 
 abbrev pub decreases-list-loop-lines : goal.decreases-list-loop-lines
 decreases-list-loop-lines l = l.lines

@@ -18,5 +18,6 @@ pub returns : goal.returns
 returns c =
     found-broken c.list-end.ensures
     (λ q. elim c.if-end-eq0.branch [
-      then-end-eq0+else-end-text w ↦ w.if-end-text.false q.1
-    | else-end-eq0 w ↦ w.if-end-eq0.false q.0 ])
+      | then-end-eq0+else-end-text w ↦ w.if-end-text.false q.1
+      | else-end-eq0 w ↦ w.if-end-eq0.false q.0
+    ])

@@ -20,5 +20,6 @@ returns-in-Refused c = (c.args.out.now, unfit (sym c.sized-size.ensures ∙ c.in
 
 pub returns-in-Accepted : goal.returns-in-Accepted
 returns-in-Accepted c =
-    let fitting : judge (back_rows (c.args.n) (length (c.args.out.now))) ≡ Verdict.Accepted = sym c.sized-size.ensures ∙ c.in-Accepted.is in
+    let fitting : judge (back_rows (c.args.n) (length (c.args.out.now))) ≡ Verdict.Accepted =
+    sym c.sized-size.ensures ∙ c.in-Accepted.is in
     back_some (c.args.out.now) (fitting) c.read.ensures

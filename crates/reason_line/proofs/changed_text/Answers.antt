@@ -25,5 +25,6 @@ returns-in-Four c =
     Written c.args.at (places_text (places_of p) ++ 10 ∷ []) c.args.out.now c.put-in-Four.new.out
     c.put-in-Four.result)
     (sym c.in-Four.is)
-    (written-four (omega (arith, c.requires)) _ _ _ _ c.field-past_a-in-Four.ensures.written c.field-past_b.ensures.written
+    (written-four (omega (arith, c.requires)) _ _ _ _ c.field-past_a-in-Four.ensures.written
+    c.field-past_b.ensures.written
     c.field-past_c.ensures.written c.decimal-past_d.ensures.written c.put-in-Four.ensures)

@@ -26,7 +26,8 @@ pub returns-in-LastMoves : goal.returns-in-LastMoves
 returns-in-LastMoves c =
     said c.in-LastMoves.is
     (last_line _ c.in-LastMoves.places
-    (record { text = c.copy-past_found.ensures.text; end = c.copy-past_found.ensures.size }) c.field-past_moved.ensures.written
+    (record { text = c.copy-past_found.ensures.text; end = c.copy-past_found.ensures.size })
+    c.field-past_moved.ensures.written
     c.changed_text.ensures)
 
 pub returns-in-NextMoves : goal.returns-in-NextMoves
@@ -39,4 +40,5 @@ pub returns-in-FoundMoves : goal.returns-in-FoundMoves
 returns-in-FoundMoves c =
     said c.in-FoundMoves.is
     (found-line _ c.in-FoundMoves.places
-    (record { text = c.copy-past_case-in-FoundMoves.ensures.text; end = c.copy-past_case-in-FoundMoves.ensures.size }) c.found_text-in-FoundMoves.ensures)
+    (record { text = c.copy-past_case-in-FoundMoves.ensures.text; end = c.copy-past_case-in-FoundMoves.ensures.size })
+    c.found_text-in-FoundMoves.ensures)

@@ -37,7 +37,8 @@ overflow_add-played c =
     let sound : length c.args.beats.now
     ≤ bad_beat c.args.beats.now = omega (arith, c.bad_beat-bad.ensures) in
     let sized : length c.args.beats.now ≡ c.args.t + c.args.s = c.if-n-t.false in
-    let in-hand : c.play-played.result.hand + zeros c.args.beats.now ≡ ones c.args.beats.now = rw (take_all c.play-played.result.at c.args.beats.now (omega arith))
+    let in-hand : c.play-played.result.hand + zeros c.args.beats.now ≡ ones c.args.beats.now =
+    rw (take_all c.play-played.result.at c.args.beats.now (omega arith))
     at c.play-played.ensures.beats_value in
     let few : (c.args.t ≤ largest) × (length c.args.beats.now ≤ most_beats)
     × (c.play-played.result.hand ≤ most_beats) = let b = c.args.beats.now in
@@ -51,7 +52,8 @@ overflow_add-ones c =
     let sound : length c.args.beats.now
     ≤ bad_beat c.args.beats.now = omega (arith, c.bad_beat-bad.ensures) in
     let sized : length c.args.beats.now ≡ c.args.t + c.args.s = c.if-n-t.false in
-    let in-hand : c.play-played.result.hand + zeros c.args.beats.now ≡ ones c.args.beats.now = rw (take_all c.play-played.result.at c.args.beats.now (omega arith))
+    let in-hand : c.play-played.result.hand + zeros c.args.beats.now ≡ ones c.args.beats.now =
+    rw (take_all c.play-played.result.at c.args.beats.now (omega arith))
     at c.play-played.ensures.beats_value in
     let few : (c.args.t ≤ largest) × (length c.args.beats.now ≤ most_beats)
     × (c.play-played.result.hand ≤ most_beats) = let b = c.args.beats.now in
@@ -65,7 +67,8 @@ beyond-requires c =
     let sound : length c.args.beats.now
     ≤ bad_beat c.args.beats.now = omega (arith, c.bad_beat-bad.ensures) in
     let sized : length c.args.beats.now ≡ c.args.t + c.args.s = c.if-n-t.false in
-    let in-hand : c.play-played.result.hand + zeros c.args.beats.now ≡ ones c.args.beats.now = rw (take_all c.play-played.result.at c.args.beats.now (omega arith))
+    let in-hand : c.play-played.result.hand + zeros c.args.beats.now ≡ ones c.args.beats.now =
+    rw (take_all c.play-played.result.at c.args.beats.now (omega arith))
     at c.play-played.ensures.beats_value in
     let few : (c.args.t ≤ largest) × (length c.args.beats.now ≤ most_beats)
     × (c.play-played.result.hand ≤ most_beats) = let b = c.args.beats.now in
@@ -78,7 +81,8 @@ pub returns-then-played-s : goal.returns-then-played-s
 returns-then-played-s c =
     let sound : length c.args.beats.now
     ≤ bad_beat c.args.beats.now = omega (arith, c.bad_beat-bad.ensures) in
-    let in-hand : c.play-played.result.hand + zeros c.args.beats.now ≡ ones c.args.beats.now = rw (take_all c.play-played.result.at c.args.beats.now (omega arith))
+    let in-hand : c.play-played.result.hand + zeros c.args.beats.now ≡ ones c.args.beats.now =
+    rw (take_all c.play-played.result.at c.args.beats.now (omega arith))
     at c.play-played.ensures.beats_value in
     let sized : length c.args.beats.now ≡ c.args.t + c.args.s = c.if-n-t.false in
     let ended : length c.args.beats.now ≤ empty_hand c.args.beats.now = omega (arith, c.play-played.ensures.at_value) in
@@ -100,7 +104,8 @@ returns c =
     let sound : length c.args.beats.now
     ≤ bad_beat c.args.beats.now = omega (arith, c.bad_beat-bad.ensures) in
     let ended : length c.args.beats.now ≤ empty_hand c.args.beats.now = omega (arith, c.play-played.ensures.at_value) in
-    let in-hand : c.play-played.result.hand + zeros c.args.beats.now ≡ ones c.args.beats.now = rw (take_all c.play-played.result.at c.args.beats.now (omega arith))
+    let in-hand : c.play-played.result.hand + zeros c.args.beats.now ≡ ones c.args.beats.now =
+    rw (take_all c.play-played.result.at c.args.beats.now (omega arith))
     at c.play-played.ensures.beats_value in
     let by_hand : (c.play-played.result.hand + c.args.s ≡ c.args.t) ↔
     (ones c.args.beats.now ≡ c.args.t) = ones-by-hand c.args.beats.now c.args.t c.args.s c.play-played.result.hand

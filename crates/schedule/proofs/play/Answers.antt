@@ -19,9 +19,16 @@ loop-at-preserved c =
     (beat) c.if-hand-up-eq0.false
 
 pub returns-then-at-beats : goal.returns-then-at-beats
-returns-then-at-beats c = record { at_value = play-end c.args.beats.now c.loop-at.at c.loop-at.hand c.loop-at.invariant c.if-at-beats.true; beats_value = c.loop-at.invariant.level }
+returns-then-at-beats c =
+    record {
+      at_value = play-end c.args.beats.now c.loop-at.at c.loop-at.hand c.loop-at.invariant c.if-at-beats.true;
+      beats_value = c.loop-at.invariant.level;
+    }
 
 pub returns-then-hand-up-eq0 : goal.returns-then-hand-up-eq0
 returns-then-hand-up-eq0 c =
-    record { at_value = play-stop c.args.beats.now c.loop-at.at c.loop-at.hand c.loop-at.invariant (omega arith)
-          c.if-hand-up-eq0.true; beats_value = c.loop-at.invariant.level }
+    record {
+      at_value = play-stop c.args.beats.now c.loop-at.at c.loop-at.hand c.loop-at.invariant (omega arith)
+          c.if-hand-up-eq0.true;
+      beats_value = c.loop-at.invariant.level;
+    }

@@ -11,7 +11,8 @@ use borrow.Author.Rules.{rules}
 use Rattle.text.proofs.numeral.Given as goal
 
 abbrev pub invariant-loop-rest : goal.invariant-loop-rest
-invariant-loop-rest l = (length l.out ≡ length l.initial.out) × Spelling l.n l.at l.initial.out l.end l.out l.last l.rest
+invariant-loop-rest l =
+    (length l.out ≡ length l.initial.out) × Spelling l.n l.at l.initial.out l.end l.out l.last l.rest
 
 abbrev pub decreases-loop-rest : goal.decreases-loop-rest
 decreases-loop-rest l = l.rest

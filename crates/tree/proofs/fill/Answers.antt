@@ -66,8 +66,11 @@ pub overflow_sub-row : goal.overflow_sub-row
 overflow_sub-row c =
     let closed : Schedule (length c.args.left.now) (length c.args.left.now) (c.args.beats.now) = c.requires.3 in
     let stepped : c.loop-at.at ≡ suc (c.loop-at.at - 1) = omega (arith, c.loop-at-test.true) in
-    let within : ((c.loop-at.at - 1)) < length (c.args.beats.now) = omega (arith, c.loop-at.invariant.1.within, c.loop-at-test.true) in
-    let one : ((get_or (c.args.beats.now) ((c.loop-at.at - 1)) 0 ≡ 0) → ⊥) → get_or (c.args.beats.now) ((c.loop-at.at - 1)) 0 ≡ 1 = λ n. omega (arith, n, closed.beats ((c.loop-at.at - 1)) (within)) in
+    let within : ((c.loop-at.at - 1)) < length (c.args.beats.now) =
+    omega (arith, c.loop-at.invariant.1.within, c.loop-at-test.true) in
+    let one : ((get_or (c.args.beats.now) ((c.loop-at.at - 1)) 0 ≡ 0) → ⊥)
+    → get_or (c.args.beats.now) ((c.loop-at.at - 1)) 0 ≡ 1 =
+    λ n. omega (arith, n, closed.beats ((c.loop-at.at - 1)) (within)) in
     let sizes : (1 ≤ (c.loop-at.row)) × (2 ≤ (c.loop-at.depth)) × ((c.loop-at.depth) ≤ suc largest) = let room =
     up_room (closed) c.loop-at.invariant.1 ((c.loop-at.at - 1)) (stepped)
     (one c.if-beats-at-eq0.false) in
@@ -78,8 +81,11 @@ pub overflow_sub-depth : goal.overflow_sub-depth
 overflow_sub-depth c =
     let closed : Schedule (length c.args.left.now) (length c.args.left.now) (c.args.beats.now) = c.requires.3 in
     let stepped : c.loop-at.at ≡ suc (c.loop-at.at - 1) = omega (arith, c.loop-at-test.true) in
-    let within : ((c.loop-at.at - 1)) < length (c.args.beats.now) = omega (arith, c.loop-at.invariant.1.within, c.loop-at-test.true) in
-    let one : ((get_or (c.args.beats.now) ((c.loop-at.at - 1)) 0 ≡ 0) → ⊥) → get_or (c.args.beats.now) ((c.loop-at.at - 1)) 0 ≡ 1 = λ n. omega (arith, n, closed.beats ((c.loop-at.at - 1)) (within)) in
+    let within : ((c.loop-at.at - 1)) < length (c.args.beats.now) =
+    omega (arith, c.loop-at.invariant.1.within, c.loop-at-test.true) in
+    let one : ((get_or (c.args.beats.now) ((c.loop-at.at - 1)) 0 ≡ 0) → ⊥)
+    → get_or (c.args.beats.now) ((c.loop-at.at - 1)) 0 ≡ 1 =
+    λ n. omega (arith, n, closed.beats ((c.loop-at.at - 1)) (within)) in
     let sizes : (1 ≤ (c.loop-at.row)) × (2 ≤ (c.loop-at.depth)) × ((c.loop-at.depth) ≤ suc largest) = let room =
     up_room (closed) c.loop-at.invariant.1 ((c.loop-at.at - 1)) (stepped)
     (one c.if-beats-at-eq0.false) in
@@ -90,8 +96,11 @@ pub bounds-stack-depth-else-beats-at-eq0 : goal.bounds-stack-depth-else-beats-at
 bounds-stack-depth-else-beats-at-eq0 c =
     let closed : Schedule (length c.args.left.now) (length c.args.left.now) (c.args.beats.now) = c.requires.3 in
     let stepped : c.loop-at.at ≡ suc (c.loop-at.at - 1) = omega (arith, c.loop-at-test.true) in
-    let within : ((c.loop-at.at - 1)) < length (c.args.beats.now) = omega (arith, c.loop-at.invariant.1.within, c.loop-at-test.true) in
-    let one : ((get_or (c.args.beats.now) ((c.loop-at.at - 1)) 0 ≡ 0) → ⊥) → get_or (c.args.beats.now) ((c.loop-at.at - 1)) 0 ≡ 1 = λ n. omega (arith, n, closed.beats ((c.loop-at.at - 1)) (within)) in
+    let within : ((c.loop-at.at - 1)) < length (c.args.beats.now) =
+    omega (arith, c.loop-at.invariant.1.within, c.loop-at-test.true) in
+    let one : ((get_or (c.args.beats.now) ((c.loop-at.at - 1)) 0 ≡ 0) → ⊥)
+    → get_or (c.args.beats.now) ((c.loop-at.at - 1)) 0 ≡ 1 =
+    λ n. omega (arith, n, closed.beats ((c.loop-at.at - 1)) (within)) in
     let sizes : (1 ≤ (c.loop-at.row)) × (2 ≤ (c.loop-at.depth)) × ((c.loop-at.depth) ≤ suc largest) = let room =
     up_room (closed) c.loop-at.invariant.1 ((c.loop-at.at - 1)) (stepped)
     (one c.if-beats-at-eq0.false) in
@@ -102,8 +111,11 @@ pub bounds-stack-depth-else-beats-at-eq0-2 : goal.bounds-stack-depth-else-beats-
 bounds-stack-depth-else-beats-at-eq0-2 c =
     let closed : Schedule (length c.args.left.now) (length c.args.left.now) (c.args.beats.now) = c.requires.3 in
     let stepped : c.loop-at.at ≡ suc (c.loop-at.at - 1) = omega (arith, c.loop-at-test.true) in
-    let within : ((c.loop-at.at - 1)) < length (c.args.beats.now) = omega (arith, c.loop-at.invariant.1.within, c.loop-at-test.true) in
-    let one : ((get_or (c.args.beats.now) ((c.loop-at.at - 1)) 0 ≡ 0) → ⊥) → get_or (c.args.beats.now) ((c.loop-at.at - 1)) 0 ≡ 1 = λ n. omega (arith, n, closed.beats ((c.loop-at.at - 1)) (within)) in
+    let within : ((c.loop-at.at - 1)) < length (c.args.beats.now) =
+    omega (arith, c.loop-at.invariant.1.within, c.loop-at-test.true) in
+    let one : ((get_or (c.args.beats.now) ((c.loop-at.at - 1)) 0 ≡ 0) → ⊥)
+    → get_or (c.args.beats.now) ((c.loop-at.at - 1)) 0 ≡ 1 =
+    λ n. omega (arith, n, closed.beats ((c.loop-at.at - 1)) (within)) in
     let sizes : (1 ≤ (c.loop-at.row)) × (2 ≤ (c.loop-at.depth)) × ((c.loop-at.depth) ≤ suc largest) = let room =
     up_room (closed) c.loop-at.invariant.1 ((c.loop-at.at - 1)) (stepped)
     (one c.if-beats-at-eq0.false) in
@@ -114,13 +126,17 @@ pub plant-requires : goal.plant-requires
 plant-requires c =
     let closed : Schedule (length c.args.left.now) (length c.args.left.now) (c.args.beats.now) = c.requires.3 in
     let stepped : c.loop-at.at ≡ suc (c.loop-at.at - 1) = omega (arith, c.loop-at-test.true) in
-    let within : ((c.loop-at.at - 1)) < length (c.args.beats.now) = omega (arith, c.loop-at.invariant.1.within, c.loop-at-test.true) in
-    let one : ((get_or (c.args.beats.now) ((c.loop-at.at - 1)) 0 ≡ 0) → ⊥) → get_or (c.args.beats.now) ((c.loop-at.at - 1)) 0 ≡ 1 = λ n. omega (arith, n, closed.beats ((c.loop-at.at - 1)) (within)) in
+    let within : ((c.loop-at.at - 1)) < length (c.args.beats.now) =
+    omega (arith, c.loop-at.invariant.1.within, c.loop-at-test.true) in
+    let one : ((get_or (c.args.beats.now) ((c.loop-at.at - 1)) 0 ≡ 0) → ⊥)
+    → get_or (c.args.beats.now) ((c.loop-at.at - 1)) 0 ≡ 1 =
+    λ n. omega (arith, n, closed.beats ((c.loop-at.at - 1)) (within)) in
     let sizes : (1 ≤ (c.loop-at.row)) × (2 ≤ (c.loop-at.depth)) × ((c.loop-at.depth) ≤ suc largest) = let room =
     up_room (closed) c.loop-at.invariant.1 ((c.loop-at.at - 1)) (stepped)
     (one c.if-beats-at-eq0.false) in
     (room.0, room.1, omega (arith, room.2, c.loop-at.invariant.0)) in
-    let few : (((length c.args.left.now)) ≤ largest) × ((c.loop-at.row) ≤ ((length c.args.left.now))) = (c.requires.0, omega (arith, c.loop-at.invariant.1.nodes)) in
+    let few : (((length c.args.left.now)) ≤ largest) × ((c.loop-at.row) ≤ ((length c.args.left.now))) =
+    (c.requires.0, omega (arith, c.loop-at.invariant.1.nodes)) in
     let u = c.loop-at.invariant.1 in
     let roots =
     planted-roots u (c.loop-at.depth - 2) (omega (arith, sizes))
@@ -137,8 +153,11 @@ pub bounds-stack-depth-else-beats-at-eq0-3 : goal.bounds-stack-depth-else-beats-
 bounds-stack-depth-else-beats-at-eq0-3 c =
     let closed : Schedule (length c.args.left.now) (length c.args.left.now) (c.args.beats.now) = c.requires.3 in
     let stepped : c.loop-at.at ≡ suc (c.loop-at.at - 1) = omega (arith, c.loop-at-test.true) in
-    let within : ((c.loop-at.at - 1)) < length (c.args.beats.now) = omega (arith, c.loop-at.invariant.1.within, c.loop-at-test.true) in
-    let one : ((get_or (c.args.beats.now) ((c.loop-at.at - 1)) 0 ≡ 0) → ⊥) → get_or (c.args.beats.now) ((c.loop-at.at - 1)) 0 ≡ 1 = λ n. omega (arith, n, closed.beats ((c.loop-at.at - 1)) (within)) in
+    let within : ((c.loop-at.at - 1)) < length (c.args.beats.now) =
+    omega (arith, c.loop-at.invariant.1.within, c.loop-at-test.true) in
+    let one : ((get_or (c.args.beats.now) ((c.loop-at.at - 1)) 0 ≡ 0) → ⊥)
+    → get_or (c.args.beats.now) ((c.loop-at.at - 1)) 0 ≡ 1 =
+    λ n. omega (arith, n, closed.beats ((c.loop-at.at - 1)) (within)) in
     let sizes : (1 ≤ (c.loop-at.row)) × (2 ≤ (c.loop-at.depth)) × ((c.loop-at.depth) ≤ suc largest) = let room =
     up_room (closed) c.loop-at.invariant.1 ((c.loop-at.at - 1)) (stepped)
     (one c.if-beats-at-eq0.false) in
@@ -149,8 +168,11 @@ pub loop-at-preserved : goal.loop-at-preserved
 loop-at-preserved c =
     let closed : Schedule (length c.args.left.now) (length c.args.left.now) (c.args.beats.now) = c.requires.3 in
     let stepped : c.loop-at.at ≡ suc (c.loop-at.at - 1) = omega (arith, c.loop-at-test.true) in
-    let within : ((c.loop-at.at - 1)) < length (c.args.beats.now) = omega (arith, c.loop-at.invariant.1.within, c.loop-at-test.true) in
-    let one : ((get_or (c.args.beats.now) ((c.loop-at.at - 1)) 0 ≡ 0) → ⊥) → get_or (c.args.beats.now) ((c.loop-at.at - 1)) 0 ≡ 1 = λ n. omega (arith, n, closed.beats ((c.loop-at.at - 1)) (within)) in
+    let within : ((c.loop-at.at - 1)) < length (c.args.beats.now) =
+    omega (arith, c.loop-at.invariant.1.within, c.loop-at-test.true) in
+    let one : ((get_or (c.args.beats.now) ((c.loop-at.at - 1)) 0 ≡ 0) → ⊥)
+    → get_or (c.args.beats.now) ((c.loop-at.at - 1)) 0 ≡ 1 =
+    λ n. omega (arith, n, closed.beats ((c.loop-at.at - 1)) (within)) in
     let sizes : (1 ≤ (c.loop-at.row)) × (2 ≤ (c.loop-at.depth)) × ((c.loop-at.depth) ≤ suc largest) = let room =
     up_room (closed) c.loop-at.invariant.1 ((c.loop-at.at - 1)) (stepped)
     (one c.if-beats-at-eq0.false) in

@@ -22,7 +22,9 @@ use Rattle.tree.proofs.Planted.{
 use Rattle.tree.proofs.fill.Given as goal
 
 abbrev pub invariant-loop-at : goal.invariant-loop-at
-invariant-loop-at l =    (length l.stack ≡ suc largest) × Planted l.beats (length l.initial.left) l.at l.row l.depth l.stack l.left l.right l.parent
+invariant-loop-at l =
+    (length l.stack ≡ suc largest)
+    × Planted l.beats (length l.initial.left) l.at l.row l.depth l.stack l.left l.right l.parent
 
 abbrev pub decreases-loop-at : goal.decreases-loop-at
 decreases-loop-at l = l.at

@@ -14,9 +14,12 @@ use Rattle.tree.proofs.tree.Goals as goal
 
 pub fill-requires : goal.fill-requires
 fill-requires c =
-    let fitting : judge (lent_rows (c.args.n) (c.args.beats.now) (c.args.left.now) (c.args.right.now) (c.args.parent.now)) ≡ Verdict.Accepted = sym c.sized-size.ensures ∙ c.in-Accepted.is in
-    let sound : checked (c.args.n) (c.args.n) (c.args.beats.now) ≡ Verdict.Accepted = sym c.check-verdict.ensures ∙ c.in-Accepted-verdict.is in
-    taken-closed (c.args.n) (c.args.beats.now) (c.args.left.now) (c.args.right.now) (c.args.parent.now) (fitting) (sound)
+    let fitting : judge (lent_rows (c.args.n) (c.args.beats.now) (c.args.left.now) (c.args.right.now)
+    (c.args.parent.now)) ≡ Verdict.Accepted = sym c.sized-size.ensures ∙ c.in-Accepted.is in
+    let sound : checked (c.args.n) (c.args.n) (c.args.beats.now) ≡ Verdict.Accepted =
+    sym c.check-verdict.ensures ∙ c.in-Accepted-verdict.is in
+    taken-closed (c.args.n) (c.args.beats.now) (c.args.left.now) (c.args.right.now) (c.args.parent.now) (fitting)
+    (sound)
 
 pub returns-in-Refused : goal.returns-in-Refused
 returns-in-Refused c =
@@ -36,12 +39,16 @@ returns-in-Refused-verdict c =
 
 pub returns-in-Accepted-verdict : goal.returns-in-Accepted-verdict
 returns-in-Accepted-verdict c =
-    let fitting : judge (lent_rows (c.args.n) (c.args.beats.now) (c.args.left.now) (c.args.right.now) (c.args.parent.now)) ≡ Verdict.Accepted = sym c.sized-size.ensures ∙ c.in-Accepted.is in
-    let sound : checked (c.args.n) (c.args.n) (c.args.beats.now) ≡ Verdict.Accepted = sym c.check-verdict.ensures ∙ c.in-Accepted-verdict.is in
+    let fitting : judge (lent_rows (c.args.n) (c.args.beats.now) (c.args.left.now) (c.args.right.now)
+    (c.args.parent.now)) ≡ Verdict.Accepted = sym c.sized-size.ensures ∙ c.in-Accepted.is in
+    let sound : checked (c.args.n) (c.args.n) (c.args.beats.now) ≡ Verdict.Accepted =
+    sym c.check-verdict.ensures ∙ c.in-Accepted-verdict.is in
     let long =
-    sizes-right (c.args.n) (length (c.args.beats.now)) (length (c.args.left.now)) (length (c.args.right.now)) (length (c.args.parent.now))
+    sizes-right (c.args.n) (length (c.args.beats.now)) (length (c.args.left.now)) (length (c.args.right.now))
+    (length (c.args.parent.now))
     (fitting) in
-    filled (tree-checked (c.args.n) (c.args.beats.now) (c.args.left.now) (c.args.right.now) (c.args.parent.now) (fitting) ∙ sound)
+    filled (tree-checked (c.args.n) (c.args.beats.now) (c.args.left.now) (c.args.right.now) (c.args.parent.now)
+    (fitting) ∙ sound)
     (subst
     (λ (j : ℕ).
     Has j (c.args.beats.now) c.fill.new.left c.fill.new.right c.fill.new.parent)

@@ -17,7 +17,9 @@ pub returns-then-trace : goal.returns-then-trace
 returns-then-trace c =
     let written = c.trace.new.beats in
     let long : length written ≡ length (c.args.out.now) = c.trace.auto.beats ∙ c.requires.1 in
-    let same = c.copy.ensures.text ∙ ap (λ (w : List ℕ). w ++ drop (length written) c.args.out.now) (sym (take-length written)) ∙ copied written c.args.out.now long in
+    let same =
+    c.copy.ensures.text ∙ ap (λ (w : List ℕ). w ++ drop (length written) c.args.out.now) (sym (take-length written))
+    ∙ copied written c.args.out.now long in
     found c.requires.0
     (subst
     (λ (w : List ℕ).

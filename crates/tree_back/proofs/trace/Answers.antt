@@ -33,12 +33,14 @@ loop-at-init c =
 
 pub returns-then-depth-eq0 : goal.returns-then-depth-eq0
 returns-then-depth-eq0 c =
-    let unfinished : c.loop-at.at < ((length c.args.left.now)) + ((length c.args.left.now)) = omega (arith, c.loop-at.invariant.1.long, c.loop-at-test.true) in
+    let unfinished : c.loop-at.at < ((length c.args.left.now)) + ((length c.args.left.now)) =
+    omega (arith, c.loop-at.invariant.1.long, c.loop-at-test.true) in
     broken (trace-stuck c.loop-at.invariant.1 c.if-child-eq0.true c.if-depth-eq0.true (unfinished))
 
 pub loop-at-preserved-then-child-eq0 : goal.loop-at-preserved-then-child-eq0
 loop-at-preserved-then-child-eq0 c =
-    let unfinished : c.loop-at.at < ((length c.args.left.now)) + ((length c.args.left.now)) = omega (arith, c.loop-at.invariant.1.long, c.loop-at-test.true) in
+    let unfinished : c.loop-at.at < ((length c.args.left.now)) + ((length c.args.left.now)) =
+    omega (arith, c.loop-at.invariant.1.long, c.loop-at-test.true) in
     let here = c.loop-at in
     (here.invariant.0, trace-leaf here.invariant.1 (unfinished) c.if-child-eq0.true c.if-depth-eq0.false)
 
@@ -52,7 +54,8 @@ returns-then-not-next c =
 
 pub loop-at-preserved : goal.loop-at-preserved
 loop-at-preserved c =
-    let unfinished : c.loop-at.at < ((length c.args.left.now)) + ((length c.args.left.now)) = omega (arith, c.loop-at.invariant.1.long, c.loop-at-test.true) in
+    let unfinished : c.loop-at.at < ((length c.args.left.now)) + ((length c.args.left.now)) =
+    omega (arith, c.loop-at.invariant.1.long, c.loop-at-test.true) in
     let is-next : (c.loop-at.row < (length c.args.left.now)) × (c.loop-at.child ≡ suc c.loop-at.row)
     × (get_or c.args.parent.now c.loop-at.row 0 ≡ c.loop-at.own) = let here = c.loop-at in
     next-so ((length c.args.left.now)) c.args.parent.now here.row here.child here.own c.requires.2

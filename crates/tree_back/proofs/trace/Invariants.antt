@@ -23,7 +23,9 @@ use Rattle.tree_back.proofs.Tracing.{
 use Rattle.tree_back.proofs.trace.Given as goal
 
 abbrev pub invariant-loop-at : goal.invariant-loop-at
-invariant-loop-at l =    (length l.stack ≡ suc largest) × Traced-to (length l.left) l.left l.right l.parent l.at l.row l.own l.child l.depth l.stack l.beats
+invariant-loop-at l =
+    (length l.stack ≡ suc largest)
+    × Traced-to (length l.left) l.left l.right l.parent l.at l.row l.own l.child l.depth l.stack l.beats
 
 abbrev pub decreases-loop-at : goal.decreases-loop-at
-decreases-loop-at l =    length l.initial.beats - l.at
+decreases-loop-at l = length l.initial.beats - l.at

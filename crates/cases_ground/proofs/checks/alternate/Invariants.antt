@@ -3,7 +3,8 @@ use Rattle.std.proofs.Common.{◌≡◌, ◌-◌, ◌≤◌, length, rules}
 use Rattle.cases_ground.proofs.checks.alternate.Given as goal
 
 abbrev pub invariant-loop-at : goal.invariant-loop-at
-invariant-loop-at l =    (length l.beats ≡ length l.initial.beats) × (l.at ≤ length l.initial.beats) × (l.at-end ≡ length l.initial.beats)
+invariant-loop-at l =
+    (length l.beats ≡ length l.initial.beats) × (l.at ≤ length l.initial.beats) × (l.at-end ≡ length l.initial.beats)
 
 abbrev pub decreases-loop-at : goal.decreases-loop-at
 decreases-loop-at l = length l.initial.beats - l.at

@@ -3,7 +3,7 @@ use Rattle.std.proofs.Common.{◌≡◌, ◌-◌, ◌≤◌, length, ⊎_elim, r
 use Rattle.cases_ground.proofs.tables.accepted.Given as goal
 
 abbrev pub invariant-loop-word : goal.invariant-loop-word
-invariant-loop-word l =    (length l.beats ≡ length l.initial.beats) × (l.found ≤ l.word) × (l.word ≤ l.words)
+invariant-loop-word l = (length l.beats ≡ length l.initial.beats) × (l.found ≤ l.word) × (l.word ≤ l.words)
 
 abbrev pub decreases-loop-word : goal.decreases-loop-word
 decreases-loop-word l = l.words - l.word

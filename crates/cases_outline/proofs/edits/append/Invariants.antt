@@ -4,7 +4,9 @@ use Rattle.std.proofs.Common.{◌≡◌, ◌+◌, ◌-◌, ◌≤◌, length, ru
 use Rattle.cases_outline.proofs.edits.append.Given as goal
 
 abbrev pub invariant-loop-i : goal.invariant-loop-i
-invariant-loop-i l =    (length l.room ≡ length l.initial.room) × (l.i ≤ length l.bytes) × (l.i-end ≡ length l.bytes) × (l.at + length l.bytes ≤ length l.initial.room)
+invariant-loop-i l =
+    (length l.room ≡ length l.initial.room) × (l.i ≤ length l.bytes) × (l.i-end ≡ length l.bytes)
+    × (l.at + length l.bytes ≤ length l.initial.room)
 
 abbrev pub decreases-loop-i : goal.decreases-loop-i
 decreases-loop-i l = length l.bytes - l.i

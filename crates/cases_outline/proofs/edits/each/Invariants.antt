@@ -3,7 +3,9 @@ use Rattle.std.proofs.Common.{◌≡◌, ◌+◌, ◌-◌, ◌≤◌, length, ru
 use Rattle.cases_outline.proofs.edits.each.Given as goal
 
 abbrev pub invariant-loop-at : goal.invariant-loop-at
-invariant-loop-at l =    (length l.text ≡ length l.initial.text) × (l.at ≤ length l.initial.text + 1) × (l.at-end ≡ length l.initial.text + 1)
+invariant-loop-at l =
+    (length l.text ≡ length l.initial.text) × (l.at ≤ length l.initial.text + 1)
+    × (l.at-end ≡ length l.initial.text + 1)
 
 abbrev pub decreases-loop-at : goal.decreases-loop-at
 decreases-loop-at l = length l.initial.text + 1 - l.at

@@ -3,7 +3,8 @@ use Rattle.std.proofs.Common.{◌≡◌, ◌-◌, ◌≤◌, length, rules}
 use Rattle.cases_outline.proofs.longest.alternate.Given as goal
 
 abbrev pub invariant-loop-i : goal.invariant-loop-i
-invariant-loop-i l = (length l.beats ≡ length l.initial.beats) × (l.i ≤ length l.initial.beats) × (l.i-end ≡ length l.initial.beats)
+invariant-loop-i l =
+    (length l.beats ≡ length l.initial.beats) × (l.i ≤ length l.initial.beats) × (l.i-end ≡ length l.initial.beats)
 
 abbrev pub decreases-loop-i : goal.decreases-loop-i
 decreases-loop-i l = length l.initial.beats - l.i

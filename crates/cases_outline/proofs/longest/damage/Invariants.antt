@@ -3,7 +3,8 @@ use Rattle.std.proofs.Common.{◌≡◌, ◌-◌, ◌≤◌, length, rules}
 use Rattle.cases_outline.proofs.longest.damage.Given as goal
 
 abbrev pub invariant-loop-at : goal.invariant-loop-at
-invariant-loop-at l =    (length l.text ≡ length l.initial.text) × (l.at ≤ length l.initial.text) × (l.at-end ≡ length l.initial.text)
+invariant-loop-at l =
+    (length l.text ≡ length l.initial.text) × (l.at ≤ length l.initial.text) × (l.at-end ≡ length l.initial.text)
 
 abbrev pub decreases-loop-at : goal.decreases-loop-at
 decreases-loop-at l = length l.initial.text - l.at

@@ -9,4 +9,5 @@ use Rattle.reader.proofs.reads.before.Goals as goal
 pub returns-then-number-eq0 : goal.returns-then-number-eq0
 returns-then-number-eq0 c =
     let args = c.args in
-    sym (held-last args.all args.number (omega (arith, c.if-all-number.false, c.if-number-eq0.true)) c.if-number-eq0.true)
+    sym (held-last args.all args.number (omega (arith, c.if-all-number.false, c.if-number-eq0.true))
+    c.if-number-eq0.true)

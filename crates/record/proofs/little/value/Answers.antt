@@ -11,13 +11,15 @@ loop-at-init c = valued-start c.args.src.now
 
 pub overflow_mul-number : goal.overflow_mul-number
 overflow_mul-number c =
-    let small : c.loop-at.number < 72057594037927936 = let bytes : Bytes c.args.src.now = λ i. omega (arith, c.shared_slice_known-1.given i) in
+    let small : c.loop-at.number < 72057594037927936 = let bytes : Bytes c.args.src.now =
+    λ i. omega (arith, c.shared_slice_known-1.given i) in
     valued-small c.loop-at.invariant bytes c.requires c.loop-at-test.true in
     omega (arith, small)
 
 pub overflow_add-number : goal.overflow_add-number
 overflow_add-number c =
-    let small : c.loop-at.number < 72057594037927936 = let bytes : Bytes c.args.src.now = λ i. omega (arith, c.shared_slice_known-1.given i) in
+    let small : c.loop-at.number < 72057594037927936 = let bytes : Bytes c.args.src.now =
+    λ i. omega (arith, c.shared_slice_known-1.given i) in
     valued-small c.loop-at.invariant bytes c.requires c.loop-at-test.true in
     omega (
       arith,

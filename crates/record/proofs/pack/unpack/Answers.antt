@@ -20,4 +20,8 @@ loop-at-preserved c =
 pub returns : goal.returns
 returns c =
     let ended : Bytes c.args.src.now = λ i. omega (arith, c.shared_slice_known-1.given i) in
-    record { value = (unpacked-all (ended) c.loop-at.invariant c.loop-at-test.false).0; out_after = (unpacked-all (ended) c.loop-at.invariant c.loop-at-test.false).1 }
+    record {
+      value = (unpacked-all (ended) c.loop-at.invariant c.loop-at-test.false).0;
+      out_after =
+          (unpacked-all (ended) c.loop-at.invariant c.loop-at-test.false).1;
+    }

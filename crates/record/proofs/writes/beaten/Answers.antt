@@ -26,26 +26,32 @@ use Rattle.record.proofs.writes.beaten.Goals as goal
 
 pub returns-then-out-past : goal.returns-then-out-past
 returns-then-out-past c =
-    let taken : checked (c.args.t) (c.args.s) (c.args.beats.now) ≡ Verdict.Accepted = sym c.check-verdict.ensures ∙ c.in-Accepted.is in
-    let size : length ((record_in (Layout.Beaten c.args.at) c.args.kind c.args.t c.args.s c.args.beats.now)) ≡ 6 + bytes_for (length (c.args.beats.now)) = beaten-size (c.args.at) c.args.kind (c.args.t) (c.args.s) (c.args.beats.now) in
+    let taken : checked (c.args.t) (c.args.s) (c.args.beats.now) ≡ Verdict.Accepted =
+    sym c.check-verdict.ensures ∙ c.in-Accepted.is in
+    let size : length ((record_in (Layout.Beaten c.args.at) c.args.kind c.args.t c.args.s c.args.beats.now)) ≡ 6 +
+    bytes_for (length (c.args.beats.now)) =
+    beaten-size (c.args.at) c.args.kind (c.args.t) (c.args.s) (c.args.beats.now) in
     let refused =
-    write-short (c.args.t) (c.args.s) (c.args.beats.now) ((record_in (Layout.Beaten c.args.at) c.args.kind c.args.t c.args.s c.args.beats.now)) (c.args.out.now) (taken)
+    write-short (c.args.t) (c.args.s) (c.args.beats.now)
+    ((record_in (Layout.Beaten c.args.at) c.args.kind c.args.t c.args.s c.args.beats.now)) (c.args.out.now) (taken)
     (omega (arith, size, c.bytes_for.ensures, c.requires, c.if-out-past.true)) in
     let made = record_in (Layout.Beaten c.args.at) c.args.kind c.args.t c.args.s c.args.beats.now in
     let both : (Answer.Refused NoRoom ≡ known_answer c.args.t c.args.s c.args.beats.now made c.args.out.now)
-        × (c.args.out.now ≡ known_left c.args.t c.args.s c.args.beats.now made c.args.out.now) =
+    × (c.args.out.now ≡ known_left c.args.t c.args.s c.args.beats.now made c.args.out.now) =
     refused-so refused _ _ (c.args.out.now) in
     record { value = both.0; out_after = both.1 }
 
 pub pack-requires : goal.pack-requires
 pack-requires c =
-    let taken : checked (c.args.t) (c.args.s) (c.args.beats.now) ≡ Verdict.Accepted = sym c.check-verdict.ensures ∙ c.in-Accepted.is in
-    let form : Allowed (c.args.t) (c.args.s) × Schedule (c.args.t) (c.args.s) (c.args.beats.now) = accepted-schedule (c.args.t) (c.args.s) (c.args.beats.now) (taken) in
+    let taken : checked (c.args.t) (c.args.s) (c.args.beats.now) ≡ Verdict.Accepted =
+    sym c.check-verdict.ensures ∙ c.in-Accepted.is in
+    let form : Allowed (c.args.t) (c.args.s) × Schedule (c.args.t) (c.args.s) (c.args.beats.now) =
+    accepted-schedule (c.args.t) (c.args.s) (c.args.beats.now) (taken) in
     let few : ((c.args.t) < 256) × ((c.args.s) < 256) × (length (c.args.beats.now) ≤ most_beats) = (
-  omega (arith, form.0.0),
-  omega (arith, form.0.0, form.0.1),
-  omega (arith, form.0.0, form.0.1, form.1.size),
-) in
+      omega (arith, form.0.0),
+      omega (arith, form.0.0, form.0.1),
+      omega (arith, form.0.0, form.0.1, form.1.size),
+    ) in
     let x = c.head.new.out in
     let from = c.args.at + 2 in
     let n = from + c.bytes_for.result - from in
@@ -59,18 +65,24 @@ pack-requires c =
 
 pub returns-else-out-past : goal.returns-else-out-past
 returns-else-out-past c =
-    let taken : checked (c.args.t) (c.args.s) (c.args.beats.now) ≡ Verdict.Accepted = sym c.check-verdict.ensures ∙ c.in-Accepted.is in
-    let size : length ((record_in (Layout.Beaten c.args.at) c.args.kind c.args.t c.args.s c.args.beats.now)) ≡ 6 + bytes_for (length (c.args.beats.now)) = beaten-size (c.args.at) c.args.kind (c.args.t) (c.args.s) (c.args.beats.now) in
+    let taken : checked (c.args.t) (c.args.s) (c.args.beats.now) ≡ Verdict.Accepted =
+    sym c.check-verdict.ensures ∙ c.in-Accepted.is in
+    let size : length ((record_in (Layout.Beaten c.args.at) c.args.kind c.args.t c.args.s c.args.beats.now)) ≡ 6 +
+    bytes_for (length (c.args.beats.now)) =
+    beaten-size (c.args.at) c.args.kind (c.args.t) (c.args.s) (c.args.beats.now) in
     let x = c.head.new.out in
     let from = c.args.at + 2 in
     let bytes = c.bytes_for.result in
     let accepted =
-    write-taken (c.args.t) (c.args.s) (c.args.beats.now) ((record_in (Layout.Beaten c.args.at) c.args.kind c.args.t c.args.s c.args.beats.now)) (c.args.out.now) (taken)
+    write-taken (c.args.t) (c.args.s) (c.args.beats.now)
+    ((record_in (Layout.Beaten c.args.at) c.args.kind c.args.t c.args.s c.args.beats.now)) (c.args.out.now) (taken)
     (omega (arith, size, c.bytes_for.ensures, c.requires, c.if-out-past.false)) in
-    let exact : bytes ≡ length (packed (c.args.beats.now)) = c.bytes_for.ensures ∙ sym (packed-size (c.args.beats.now)) in
+    let exact : bytes ≡ length (packed (c.args.beats.now)) =
+    c.bytes_for.ensures ∙ sym (packed-size (c.args.beats.now)) in
     let made = record_in (Layout.Beaten c.args.at) c.args.kind c.args.t c.args.s c.args.beats.now in
     let long-made : from + bytes ≡ length made = omega (arith, size, c.bytes_for.ensures, c.requires) in
-    let bytes-made : take from x ++ (c.pack.new.out ++ drop (from + bytes - from) (drop from x)) ≡ made ++ drop (length made) c.args.out.now =
+    let bytes-made : take from x ++ (c.pack.new.out ++ drop (from + bytes - from) (drop from x)) ≡ made ++ drop
+    (length made) c.args.out.now =
     record-made (Layout.Beaten (c.args.at)) c.args.kind (c.args.t) (c.args.s) (c.args.beats.now) (from + bytes - 2)
     from (from + bytes - from)
     (c.args.out.now) x c.pack.new.out c.head.ensures c.pack.ensures (omega (arith, exact))

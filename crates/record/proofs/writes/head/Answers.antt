@@ -13,6 +13,9 @@ use Rattle.record.proofs.writes.head.Goals as goal
 pub returns : goal.returns
 unfolding low_first
 returns c =
-    let bytes = set (set (set (set (c.args.out.now) 0 ((c.args.long % 256))) 1 ((c.args.long / 256 % 256))) 2 ((c.args.kind % 256))) 3 ((c.args.kind / 256 % 256)) in
+    let bytes =
+    set (set (set (set (c.args.out.now) 0 ((c.args.long % 256))) 1 ((c.args.long / 256 % 256))) 2
+    ((c.args.kind % 256))) 3 ((c.args.kind / 256 % 256)) in
     ap (λ (j : ℕ). set (set bytes j c.args.t) (j + 1) c.args.s) c.requires.0
-    ∙ headed (c.args.out.now) ((c.args.long % 256)) ((c.args.long / 256 % 256)) ((c.args.kind % 256)) ((c.args.kind / 256 % 256)) c.args.t c.args.s c.requires.1
+    ∙ headed (c.args.out.now) ((c.args.long % 256)) ((c.args.long / 256 % 256)) ((c.args.kind % 256))
+    ((c.args.kind / 256 % 256)) c.args.t c.args.s c.requires.1

@@ -26,28 +26,43 @@ use Rattle.record.proofs.writes.numbered.Goals as goal
 
 pub returns-then-out-end : goal.returns-then-out-end
 returns-then-out-end c =
-    let answered : (checked (c.args.t) (c.args.s) (c.args.beats.now) ≡ Verdict.Accepted) × (c.in-Value.number ≡ number_of (c.args.t) (c.args.s) (c.args.beats.now)) = answer-value (checked (c.args.t) (c.args.s) (c.args.beats.now)) (number_of (c.args.t) (c.args.s) (c.args.beats.now))
+    let answered : (checked (c.args.t) (c.args.s) (c.args.beats.now) ≡ Verdict.Accepted)
+    × (c.in-Value.number ≡ number_of (c.args.t) (c.args.s) (c.args.beats.now)) =
+    answer-value (checked (c.args.t) (c.args.s) (c.args.beats.now))
+    (number_of (c.args.t) (c.args.s) (c.args.beats.now))
     (sym c.number-answer.ensures ∙ c.in-Value.is) in
-    let size : length ((record_in ((Layout.Numbered c.args.at Numbering.Catalogue)) c.args.kind c.args.t c.args.s c.args.beats.now)) ≡ 14 = numbered-size (c.args.at) c.args.kind (c.args.t) (c.args.s) (c.args.beats.now) Numbering.Catalogue in
+    let size : length ((record_in ((Layout.Numbered c.args.at Numbering.Catalogue)) c.args.kind c.args.t c.args.s
+    c.args.beats.now)) ≡ 14 =
+    numbered-size (c.args.at) c.args.kind (c.args.t) (c.args.s) (c.args.beats.now) Numbering.Catalogue in
     let refused =
-    write-short (c.args.t) (c.args.s) (c.args.beats.now) ((record_in ((Layout.Numbered c.args.at Numbering.Catalogue)) c.args.kind c.args.t c.args.s c.args.beats.now)) (c.args.out.now) answered.0
+    write-short (c.args.t) (c.args.s) (c.args.beats.now)
+    ((record_in ((Layout.Numbered c.args.at Numbering.Catalogue)) c.args.kind c.args.t c.args.s c.args.beats.now))
+    (c.args.out.now) answered.0
     (omega (arith, size, c.requires, c.if-out-end.true)) in
-    let made = record_in (Layout.Numbered c.args.at Numbering.Catalogue) c.args.kind c.args.t c.args.s c.args.beats.now in
+    let made =
+    record_in (Layout.Numbered c.args.at Numbering.Catalogue) c.args.kind c.args.t c.args.s c.args.beats.now in
     let both : (Answer.Refused NoRoom ≡ known_answer c.args.t c.args.s c.args.beats.now made c.args.out.now)
-        × (c.args.out.now ≡ known_left c.args.t c.args.s c.args.beats.now made c.args.out.now) =
+    × (c.args.out.now ≡ known_left c.args.t c.args.s c.args.beats.now made c.args.out.now) =
     refused-so refused _ _ (c.args.out.now) in
     record { value = both.0; out_after = both.1 }
 
 pub returns-else-out-end : goal.returns-else-out-end
 returns-else-out-end c =
-    let answered : (checked (c.args.t) (c.args.s) (c.args.beats.now) ≡ Verdict.Accepted) × (c.in-Value.number ≡ number_of (c.args.t) (c.args.s) (c.args.beats.now)) = answer-value (checked (c.args.t) (c.args.s) (c.args.beats.now)) (number_of (c.args.t) (c.args.s) (c.args.beats.now))
+    let answered : (checked (c.args.t) (c.args.s) (c.args.beats.now) ≡ Verdict.Accepted)
+    × (c.in-Value.number ≡ number_of (c.args.t) (c.args.s) (c.args.beats.now)) =
+    answer-value (checked (c.args.t) (c.args.s) (c.args.beats.now))
+    (number_of (c.args.t) (c.args.s) (c.args.beats.now))
     (sym c.number-answer.ensures ∙ c.in-Value.is) in
-    let size : length ((record_in ((Layout.Numbered c.args.at Numbering.Catalogue)) c.args.kind c.args.t c.args.s c.args.beats.now)) ≡ 14 = numbered-size (c.args.at) c.args.kind (c.args.t) (c.args.s) (c.args.beats.now) Numbering.Catalogue in
+    let size : length ((record_in ((Layout.Numbered c.args.at Numbering.Catalogue)) c.args.kind c.args.t c.args.s
+    c.args.beats.now)) ≡ 14 =
+    numbered-size (c.args.at) c.args.kind (c.args.t) (c.args.s) (c.args.beats.now) Numbering.Catalogue in
     let x = c.head.new.out in
     let from = c.args.at + 2 in
     let n = from + 8 - from in
     let accepted =
-    write-taken (c.args.t) (c.args.s) (c.args.beats.now) ((record_in ((Layout.Numbered c.args.at Numbering.Catalogue)) c.args.kind c.args.t c.args.s c.args.beats.now)) (c.args.out.now) answered.0
+    write-taken (c.args.t) (c.args.s) (c.args.beats.now)
+    ((record_in ((Layout.Numbered c.args.at Numbering.Catalogue)) c.args.kind c.args.t c.args.s c.args.beats.now))
+    (c.args.out.now) answered.0
     (omega (arith, size, c.requires, c.if-out-end.false)) in
     let long = length-low 8 (number_of (c.args.t) (c.args.s) (c.args.beats.now)) in
     let kept = c.head.auto.out in
@@ -57,10 +72,13 @@ returns-else-out-end c =
     c.spell.ensures
     ∙ ap (λ (j : ℕ). low_first j c.in-Value.number) eight
     ∙ ap (low_first 8) answered.1 in
-    let made = record_in (Layout.Numbered c.args.at Numbering.Catalogue) c.args.kind c.args.t c.args.s c.args.beats.now in
+    let made =
+    record_in (Layout.Numbered c.args.at Numbering.Catalogue) c.args.kind c.args.t c.args.s c.args.beats.now in
     let long-made : from + 8 ≡ length made = omega (arith, size, c.requires) in
-    let bytes-made : take from x ++ (c.spell.new.out ++ drop n (drop from x)) ≡ made ++ drop (length made) c.args.out.now =
-    record-made ((Layout.Numbered c.args.at Numbering.Catalogue)) c.args.kind (c.args.t) (c.args.s) (c.args.beats.now) (from + 8 - 2) from
+    let bytes-made : take from x ++ (c.spell.new.out ++ drop n (drop from x)) ≡ made ++ drop (length made)
+    c.args.out.now =
+    record-made ((Layout.Numbered c.args.at Numbering.Catalogue)) c.args.kind (c.args.t) (c.args.s) (c.args.beats.now)
+    (from + 8 - 2) from
     n (c.args.out.now) x
     c.spell.new.out c.head.ensures body (omega (arith, long)) (omega (arith, c.requires))
     (omega (arith, long)) in

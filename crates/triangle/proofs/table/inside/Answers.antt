@@ -20,13 +20,15 @@ returns-then-i-lt190 c =
 
 pub in_middle-requires : goal.in_middle-requires
 in_middle-requires c =
-    let from_second : middle_row ≤ c.args.t = place-from c.args.t c.args.s middle_row c.requires.1 (omega (arith, c.if-i-lt190.false)) in
+    let from_second : middle_row ≤ c.args.t =
+    place-from c.args.t c.args.s middle_row c.requires.1 (omega (arith, c.if-i-lt190.false)) in
     let in-second : c.args.t < high_row = place-below c.args.t c.args.s high_row c.if-i-lt378.true in
     middle-at c.args.t c.args.s (from_second) (in-second) c.requires.1
 
 pub returns-then-i-lt378 : goal.returns-then-i-lt378
 returns-then-i-lt378 c =
-    let from_second : middle_row ≤ c.args.t = place-from c.args.t c.args.s middle_row c.requires.1 (omega (arith, c.if-i-lt190.false)) in
+    let from_second : middle_row ≤ c.args.t =
+    place-from c.args.t c.args.s middle_row c.requires.1 (omega (arith, c.if-i-lt190.false)) in
     let in-second : c.args.t < high_row = place-below c.args.t c.args.s high_row c.if-i-lt378.true in
     c.in_middle.ensures
     ∙ sym (middle-at c.args.t c.args.s (from_second) (in-second)
@@ -34,12 +36,14 @@ returns-then-i-lt378 c =
 
 pub in_high-requires : goal.in_high-requires
 in_high-requires c =
-    let from-third : high_row ≤ c.args.t = place-from c.args.t c.args.s high_row c.requires.1 (omega (arith, c.if-i-lt378.false)) in
+    let from-third : high_row ≤ c.args.t =
+    place-from c.args.t c.args.s high_row c.requires.1 (omega (arith, c.if-i-lt378.false)) in
     high-at c.args.t c.args.s (from-third) c.requires.0 c.requires.1
 
 pub returns : goal.returns
 returns c =
-    let from-third : high_row ≤ c.args.t = place-from c.args.t c.args.s high_row c.requires.1 (omega (arith, c.if-i-lt378.false)) in
+    let from-third : high_row ≤ c.args.t =
+    place-from c.args.t c.args.s high_row c.requires.1 (omega (arith, c.if-i-lt378.false)) in
     c.in_high.ensures
     ∙ sym (high-at c.args.t c.args.s (from-third) c.requires.0
     c.requires.1)
