@@ -5,7 +5,6 @@ use Prim.Native.Nat.{◌≤◌, ◌<◌}
 use native.Mathlib.Omega.{arith}
 use lib.ListN.{length}
 use Rattle.line.proofs.Writing.{text-fits, written-accepted}
-use borrow.Author.Rules.{rules}
 use Rattle.line.proofs.accepted.Goals as goal
 
 pub put-requires : goal.put-requires

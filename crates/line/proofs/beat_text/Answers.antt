@@ -1,12 +1,10 @@
 -- `line::beat_text` meets its contract: the first i beats are written. The measure is the number of those left.
 -- Assumes nothing.
 use mathlib.Core.List.{List}
-use mathlib.Core.Path.{◌≡◌, refl, ◌∙◌, ap}
-use Prim.Native.Nat.{ℕ, ◌+◌, ◌-◌, ◌≤◌}
-use native.Mathlib.Omega.{arith}
-use lib.ListN.{length, get_or, set, length-set}
-use lib.Seq.{paste, paste-zero}
-use Rattle.line.proofs.Writing.{glyphs, beats-more, written_none, written-beats}
+use mathlib.Core.Path.{◌∙◌, ap}
+use Prim.Native.Nat.{ℕ, ◌+◌}
+use lib.ListN.{get_or, set, length-set}
+use Rattle.line.proofs.Writing.{beats-more, written_none, written-beats}
 use borrow.Author.Rules.{rules}
 use Rattle.line.proofs.beat_text.Goals as goal
 

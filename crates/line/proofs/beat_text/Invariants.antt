@@ -1,13 +1,10 @@
 -- `line::beat_text` meets its contract: the first i beats are written. The measure is the number of those left.
 -- Assumes nothing.
-use mathlib.Core.List.{List}
-use mathlib.Core.Path.{◌≡◌, refl, ◌∙◌, ap}
-use Prim.Native.Nat.{ℕ, ◌+◌, ◌-◌, ◌≤◌}
-use native.Mathlib.Omega.{arith}
-use lib.ListN.{length, get_or, set, length-set}
-use lib.Seq.{paste, paste-zero}
-use Rattle.line.proofs.Writing.{glyphs, beats-more, written_none, written-beats}
-use borrow.Author.Rules.{rules}
+use mathlib.Core.Path.{◌≡◌}
+use Prim.Native.Nat.{◌-◌, ◌≤◌}
+use lib.ListN.{length}
+use lib.Seq.{paste}
+use Rattle.line.proofs.Writing.{glyphs}
 use Rattle.line.proofs.beat_text.Given as goal
 
 abbrev pub invariant-loop-i : goal.invariant-loop-i

@@ -1,7 +1,6 @@
 -- `line::refused` meets its contract: the line feed is written after the text. Assumes nothing.
 use native.Mathlib.Omega.{arith}
 use Rattle.text.proofs.Writing.{written_then}
-use borrow.Author.Rules.{rules}
 use Rattle.line.proofs.refused.Goals as goal
 
 pub returns : goal.returns

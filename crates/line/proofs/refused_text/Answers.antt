@@ -10,7 +10,6 @@ use mir.ValLaws.{to_z-of_z}
 use Rattle.text.specs.Decimal.{signed}
 use Rattle.text.proofs.Integers.{signed-fits}
 use Rattle.line.proofs.Writing.{written-refused}
-use borrow.Author.Rules.{rules}
 use Rattle.line.proofs.refused_text.Goals as goal
 
 pub returns : goal.returns

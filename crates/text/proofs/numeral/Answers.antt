@@ -6,8 +6,7 @@ use native.Mathlib.Omega.{arith}
 use lib.ListN.{length, length-set}
 use Rattle.text.specs.Decimal.{decimal}
 use Rattle.text.proofs.Digits.{digits-some}
-use Rattle.text.proofs.Writing.{Spelling, spelling-none, spelling-some, spelling-more, spelling-all}
-use borrow.Author.Rules.{rules}
+use Rattle.text.proofs.Writing.{spelling-none, spelling-some, spelling-more, spelling-all}
 use Rattle.text.proofs.numeral.Goals as goal
 
 pub overflow_sub-last : goal.overflow_sub-last

@@ -1,13 +1,8 @@
 -- `text::numeral` meets its contract: each turn writes one digit more, from the last on. The measure is what is left of
 -- the number, which falls to its tenth. Assumes nothing.
-use mathlib.Core.Path.{◌≡◌, refl, ◌∙◌, ap}
-use Prim.Native.Nat.{ℕ, ◌+◌, ◌%◌, ◌≤◌}
-use native.Mathlib.Omega.{arith}
-use lib.ListN.{length, length-set}
-use Rattle.text.specs.Decimal.{decimal}
-use Rattle.text.proofs.Digits.{digits-some}
-use Rattle.text.proofs.Writing.{Spelling, spelling-none, spelling-some, spelling-more, spelling-all}
-use borrow.Author.Rules.{rules}
+use mathlib.Core.Path.{◌≡◌}
+use lib.ListN.{length}
+use Rattle.text.proofs.Writing.{Spelling}
 use Rattle.text.proofs.numeral.Given as goal
 
 abbrev pub invariant-loop-rest : goal.invariant-loop-rest

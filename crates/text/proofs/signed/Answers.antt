@@ -9,9 +9,8 @@ use mir.Val.{to_z, of_z}
 use mir.ValLaws.{to_z-of_z}
 use Rattle.text.specs.Decimal.{decimal}
 use Rattle.text.specs.Written.{Written}
-use Rattle.text.proofs.Integers.{signed_below, signed-not}
+use Rattle.text.proofs.Integers.{signed_below}
 use Rattle.text.proofs.Writing.{written_then}
-use borrow.Author.Rules.{rules}
 use Rattle.text.proofs.signed.Goals as goal
 
 pub returns-then-n-lt0 : goal.returns-then-n-lt0

@@ -1,7 +1,6 @@
 -- `text::width` meets its contract: the power is ten to the digits counted, and n has no fewer. Assumes nothing.
-use Prim.Native.Nat.{◌-◌}
 use native.Mathlib.Omega.{arith}
-use Rattle.text.proofs.Digits.{Counting, counting-one, counting_more, counting-all, counting-most, power-fits}
+use Rattle.text.proofs.Digits.{counting-one, counting_more, counting-all, counting-most, power-fits}
 use borrow.Author.Rules.{rules}
 use Rattle.text.proofs.width.Goals as goal
 

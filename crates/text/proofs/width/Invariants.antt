@@ -1,8 +1,6 @@
 -- `text::width` meets its contract: the power is ten to the digits counted, and n has no fewer. Assumes nothing.
 use Prim.Native.Nat.{◌-◌}
-use native.Mathlib.Omega.{arith}
-use Rattle.text.proofs.Digits.{Counting, counting-one, counting_more, counting-all, counting-most, power-fits}
-use borrow.Author.Rules.{rules}
+use Rattle.text.proofs.Digits.{Counting}
 use Rattle.text.proofs.width.Given as goal
 
 abbrev pub invariant-loop-power : goal.invariant-loop-power
