@@ -4,7 +4,7 @@
 --     previous-stays, previous-turns, previous-dips, previous-low     the previous form of each shape
 --     previous-moved    it is the form that the rule made the schedule of
 -- Assumes nothing.
-use mathlib.Core.Bool.{Bool, true, false, false≢true, cond}
+use mathlib.Core.Bool.{Bool, true, false≢true, cond}
 use mathlib.Core.List.{List, [], ◌∷◌, ◌++◌}
 use mathlib.Core.Path.{◌≡◌, ◌∙◌, ap, sym}
 use Prim.Native.Nat.{ℕ, zero, suc, pred, ◌+◌}

@@ -17,7 +17,7 @@ use lib.ListN.{length, drop, set, length-append}
 use lib.Seq.{paste-zero}
 use Rattle.text.specs.Written.{Written}
 use Rattle.text.proofs.Writing.{written-put, written_then}
-use Rattle.outline.specs.Outline.{Outline, none, ◌then◌, heading, schedule, beats}
+use Rattle.outline.specs.Outline.{Outline, none, heading, schedule, beats}
 use Rattle.outline.specs.Text.{under}
 use Rattle.outline.specs.Writing.{part}
 use Rattle.outline_back.specs.declared.Reached.{Reached}

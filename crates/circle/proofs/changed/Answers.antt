@@ -1,13 +1,8 @@
 -- `circle::changed` meets its contract: a refusal is the check's, and an accepted schedule's plan says what a step
 -- would change. Assumes nothing.
-use mathlib.Core.Path.{◌≡◌, ◌∙◌, ap, sym}
-use borrow.Author.Rules.{rules}
-use Rattle.refusal.specs.declared.Answer.{Answer}
+use mathlib.Core.Path.{◌≡◌, ◌∙◌, sym}
 use Rattle.refusal.specs.declared.Verdict.{Verdict}
-use Rattle.refusal.specs.Answer.{answer}
 use Rattle.schedule.specs.Check.{checked}
-use Rattle.circle.specs.Step.{next}
-use Rattle.circle.specs.Walk.{changed}
 use Rattle.circle.proofs.Forms.{accepted-form}
 use Rattle.circle.proofs.changed.Goals as goal
 

@@ -1,12 +1,9 @@
 -- `circle::next` meets its contract: a refusal is the check's and leaves what was lent, and an accepted schedule is
 -- taken one step on. Assumes nothing.
 use mathlib.Core.Path.{◌≡◌, ◌∙◌, sym}
-use borrow.Author.Rules.{rules}
 use Rattle.refusal.specs.declared.Verdict.{Verdict}
 use Rattle.schedule.specs.Check.{checked}
-use Rattle.circle.specs.Step.{next}
-use Rattle.circle.specs.Walk.{changed}
-use Rattle.circle.proofs.Forms.{refused-so, accepted-so, accepted-form}
+use Rattle.circle.proofs.Forms.{accepted-form}
 use Rattle.circle.proofs.next.Goals as goal
 
 pub step-requires : goal.step-requires

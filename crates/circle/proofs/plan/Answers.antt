@@ -1,6 +1,5 @@
 -- `circle::plan` meets its contract, one shape of the schedule at each return. Assumes nothing.
 use native.Mathlib.Omega.{arith}
-use borrow.Author.Rules.{rules}
 use Rattle.circle.proofs.Stores.{
   Found,
   find,

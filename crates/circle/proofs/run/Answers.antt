@@ -1,15 +1,11 @@
 -- `circle::run` meets its contract: a refusal leaves what was lent; else the schedule is walked k steps on.
 -- Assumes nothing.
-use mathlib.Core.List.{List}
 use mathlib.Core.Path.{◌≡◌, ◌∙◌, sym}
-use Prim.Native.Nat.{ℕ}
 use native.Mathlib.Omega.{arith}
-use borrow.Author.Rules.{rules}
 use Rattle.refusal.specs.declared.Verdict.{Verdict}
 use Rattle.refusal.specs.Rows.{judge}
-use Rattle.circle.specs.Walk.{steps, worked}
 use Rattle.circle.specs.Answers.{run_rows}
-use Rattle.circle.proofs.Forms.{refused-so, accepted-so, accepted-form, run-allowed}
+use Rattle.circle.proofs.Forms.{accepted-form, run-allowed}
 use Rattle.circle.proofs.run.Goals as goal
 
 pub walk-requires : goal.walk-requires

@@ -1,7 +1,6 @@
 -- `circle_back::plan_second` meets its contract: the rest has no 01 at the first return, and one at the second. Assumes
 -- nothing.
 use native.Mathlib.Omega.{arith}
-use borrow.Author.Rules.{rules}
 use Rattle.circle.proofs.Stores.{Found, find, found-order}
 use Rattle.circle_back.proofs.Undoing.{undo-turn, undo-dip}
 use Rattle.circle_back.proofs.plan_second.Goals as goal

@@ -1,13 +1,8 @@
 -- `circle_back::previous_changed` meets its contract: a refusal is the check's, and the move that led to an accepted
 -- schedule says what a step back would change. Assumes nothing.
-use mathlib.Core.Path.{◌≡◌, ◌∙◌, ap, sym}
-use borrow.Author.Rules.{rules}
-use Rattle.refusal.specs.declared.Answer.{Answer}
+use mathlib.Core.Path.{◌≡◌, ◌∙◌, sym}
 use Rattle.refusal.specs.declared.Verdict.{Verdict}
-use Rattle.refusal.specs.Answer.{answer}
 use Rattle.schedule.specs.Check.{checked}
-use Rattle.circle.specs.Back.{previous}
-use Rattle.circle.specs.Walk.{changed}
 use Rattle.circle.proofs.Forms.{accepted-form}
 use Rattle.circle_back.proofs.previous_changed.Goals as goal
 

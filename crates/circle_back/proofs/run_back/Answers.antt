@@ -1,15 +1,11 @@
 -- `circle_back::run_back` meets its contract: a refusal leaves what was lent; else the schedule is walked k steps back.
 -- Assumes nothing.
-use mathlib.Core.List.{List}
 use mathlib.Core.Path.{◌≡◌, ◌∙◌, sym}
-use Prim.Native.Nat.{ℕ}
 use native.Mathlib.Omega.{arith}
-use borrow.Author.Rules.{rules}
 use Rattle.refusal.specs.declared.Verdict.{Verdict}
 use Rattle.refusal.specs.Rows.{judge}
-use Rattle.circle.specs.Back.{steps_back, worked_back}
 use Rattle.circle.specs.Answers.{run_rows}
-use Rattle.circle.proofs.Forms.{refused-so, accepted-so, accepted-form, run-allowed}
+use Rattle.circle.proofs.Forms.{accepted-form, run-allowed}
 use Rattle.circle_back.proofs.run_back.Goals as goal
 
 pub walk_back-requires : goal.walk_back-requires

@@ -1,20 +1,15 @@
 -- `circle_back::run_back_changed` meets its contract: a refusal is the run's; else a copy of the schedule is walked k
 -- steps back. Every schedule fits the room. Assumes nothing.
-use mathlib.Core.List.{List}
-use mathlib.Core.Path.{◌≡◌, ◌∙◌, ap, sym}
-use Prim.Native.Nat.{ℕ, ◌≤◌}
+use mathlib.Core.Path.{◌≡◌, ◌∙◌, sym}
+use Prim.Native.Nat.{◌≤◌}
 use native.Mathlib.Omega.{arith}
-use borrow.Author.Rules.{rules}
 use lib.ListN.{length}
 use lib.Seq.{length-take-le}
-use Rattle.refusal.specs.declared.Answer.{Answer}
 use Rattle.refusal.specs.declared.Verdict.{Verdict}
-use Rattle.refusal.specs.Answer.{answer}
 use Rattle.refusal.specs.Rows.{judge}
 use Rattle.triangle.specs.Count.{most_beats}
 use Rattle.schedule.specs.Check.{checked}
 use Rattle.schedule.proofs.Theorems.{accepted-schedule}
-use Rattle.circle.specs.Back.{worked_back}
 use Rattle.circle.specs.Answers.{most_steps, run_rows}
 use Rattle.circle.proofs.Forms.{accepted-form, run-allowed}
 use Rattle.circle_back.proofs.run_back_changed.Goals as goal

@@ -1,11 +1,8 @@
 -- `circle_back::walk_back` meets its contract. The loop's invariant: after `counter` steps the form reached, and the
 -- beats changed so far, which are at most four a step. The measure is what is left of the steps, and each turn
 -- takes one. Assumes nothing.
-use mathlib.Core.Path.{◌≡◌}
-use Prim.Native.Nat.{◌+◌, ◌-◌, ◌≤◌}
-use native.Mathlib.Omega.{arith}
-use borrow.Author.Rules.{rules}
-use Rattle.circle.proofs.Forms.{goes_back, Walked, walked_start, walked-turn}
+use Prim.Native.Nat.{◌-◌, ◌≤◌}
+use Rattle.circle.proofs.Forms.{goes_back, Walked}
 use Rattle.circle_back.proofs.walk_back.Given as goal
 
 abbrev pub invariant-loop : goal.invariant-loop

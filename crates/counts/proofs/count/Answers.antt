@@ -1,7 +1,6 @@
 -- `counts::count` meets its contract: a refusal is the one that `allowed` gave, and the table has the count of an
 -- accepted pair. Assumes nothing.
 use mathlib.Core.Path.{◌∙◌, ap, sym}
-use borrow.Author.Rules.{rules}
 use Rattle.refusal.specs.declared.Answer.{Answer}
 use Rattle.refusal.specs.declared.Verdict.{Verdict}
 use Rattle.refusal.specs.Answer.{answer}

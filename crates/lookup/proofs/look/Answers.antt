@@ -1,7 +1,6 @@
 -- `lookup::look` meets its contract: the lent row has the count, and else the matches have it. Assumes nothing.
 use mathlib.Core.Path.{◌∙◌}
 use Rattle.triangle.proofs.Count.{counted-N}
-use borrow.Author.Rules.{rules}
 use Rattle.lookup.proofs.look.Goals as goal
 
 pub returns-then-row-rows : goal.returns-then-row-rows

@@ -1,12 +1,10 @@
 -- `number::growth` meets its contract: the counts that it looks up have a form, so that the 1 can be
 -- taken off. Assumes nothing.
-use mathlib.Core.Path.{◌≡◌, ap}
-use Prim.Native.Nat.{ℕ, zero, suc, ◌+◌, ◌-◌, ◌*◌, ◌^◌, ◌≤◌, ◌<◌}
+use mathlib.Core.Path.{◌≡◌}
+use Prim.Native.Nat.{ℕ, zero, suc, ◌+◌, ◌-◌, ◌*◌, ◌≤◌, ◌<◌}
 use native.Mathlib.Omega.{arith}
-use borrow.Author.Rules.{rules}
 use Rattle.triangle.specs.Count.{N}
 use Rattle.triangle.proofs.Count.{N-pos}
-use Rattle.triangle.proofs.Rule.{N-fits}
 use Rattle.number.proofs.growth.Goals as goal
 
 at_most : (beat x m : ℕ) → beat ≤ 1 → x < m → 0 < m → beat * x < m

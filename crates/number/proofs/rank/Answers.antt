@@ -4,8 +4,6 @@ use mathlib.Core.Bool.{true, true≢false}
 use mathlib.Core.Path.{◌≡◌, refl, ◌∙◌, ap, ap₂, sym}
 use Prim.Native.Nat.{ℕ, ◌+◌, ◌-◌, ◌≤◌, ◌<◌}
 use native.Mathlib.Omega.{arith}
-use borrow.Author.Rules.{rules}
-use borrow.Author.Tests.{not-true, not-false}
 use lib.ListN.{length}
 use Rattle.triangle.specs.Count.{N, largest}
 use Rattle.triangle.proofs.Count.{N-pos}
@@ -13,24 +11,7 @@ use Rattle.triangle.proofs.Rule.{N-fits}
 use Rattle.counts.specs.Counts.{Allowed}
 use Rattle.schedule.proofs.Skipping.{Skips, skipped-skips}
 use Rattle.number.specs.Ranking.{goes_on}
-use Rattle.number.proofs.Counting.{
-  sized-parts,
-  parts-sized,
-  no-rank,
-  ranked,
-  goes_parts,
-  level-parts,
-  front-level,
-  Counted,
-  counted-level,
-  counted-below,
-  counted-down,
-  counted-goes,
-  counted-front,
-  counted-turn,
-  counted-all,
-  counted-short,
-}
+use Rattle.number.proofs.Counting.{sized-parts, no-rank, ranked, goes_parts, level-parts, front-level, Counted, counted-below, counted-goes, counted-front, counted-turn, counted-all, counted-short}
 use Rattle.number.proofs.rank.Goals as goal
 
 pub overflow_sub-downs : goal.overflow_sub-downs

@@ -1,7 +1,7 @@
 -- The cycle of calls {heading, list} meets its contracts: see Invariants.antt. Assumes nothing.
 use mathlib.Core.Path.{◌≡◌, refl}
 use native.Mathlib.Omega.{arith}
-use Prim.Native.Nat.{ℕ, ◌+◌, ◌-◌}
+use Prim.Native.Nat.{◌-◌}
 use lib.ListN.{length}
 use Rattle.outline.proofs.Listing as listing
 use Rattle.outline.proofs.+heading_list.Goals as goal

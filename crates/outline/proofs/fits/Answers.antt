@@ -1,16 +1,13 @@
 -- `outline::fits` meets its contract: n(n + 1) bytes are enough for n tasks; where there are fewer, the text is written
 -- to see how long it is. Assumes nothing.
-use mathlib.Core.List.{List}
 use mathlib.Core.Path.{◌≡◌, sym, ap}
 use Prim.Native.Nat.{ℕ, ◌+◌, ◌*◌, ◌/◌, ◌≤◌}
 use native.Mathlib.Omega.{arith}
 use borrow.Author.Tests.{le-leb}
-use lib.Dec.{leb}
 use lib.ListN.{length}
 use Rattle.triangle.specs.Count.{largest}
 use Rattle.outline.specs.Text.{printed}
 use Rattle.outline.proofs.Bound.{bound-largest, printed-bound}
-use borrow.Author.Rules.{rules}
 use Rattle.outline.proofs.fits.Goals as goal
 
 pub returns-then-n-room : goal.returns-then-n-room

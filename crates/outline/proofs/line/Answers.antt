@@ -8,7 +8,6 @@ use Rattle.text.specs.Decimal.{decimal}
 use Rattle.text.specs.Written.{Written}
 use Rattle.text.proofs.Writing.{written_then}
 use Rattle.outline.proofs.Numbers.{number-top, number-below, length-number}
-use borrow.Author.Rules.{rules}
 use Rattle.outline.proofs.line.Goals as goal
 
 pub returns-then-long-eq0 : goal.returns-then-long-eq0

@@ -1,19 +1,10 @@
 -- `outline::outline` meets its contract: what is not refused has room, and is printed. Assumes nothing.
-use mathlib.Core.List.{◌++◌}
-use mathlib.Core.Path.{◌≡◌, sym, ◌∙◌, ap}
-use Prim.Native.Nat.{ℕ}
-use native.Mathlib.Nat.{zero-add}
-use native.Mathlib.Omega.{arith}
-use lib.ListN.{length, drop}
-use Rattle.refusal.specs.declared.Answer.{Answer}
+use mathlib.Core.Path.{◌≡◌, sym, ◌∙◌}
+use lib.ListN.{length}
 use Rattle.refusal.specs.declared.Verdict.{Verdict}
-use Rattle.refusal.specs.Answer.{answer}
 use Rattle.refusal.specs.Rows.{judge}
-use Rattle.refusal.proofs.Left.{left-refused, left-accepted}
-use Rattle.outline.specs.Text.{printed}
 use Rattle.outline.specs.Answers.{outline_rows}
 use Rattle.outline.proofs.Verdicts.{closed-schedule, room-closed}
-use borrow.Author.Rules.{rules}
 use Rattle.outline.proofs.outline.Goals as goal
 
 pub print-requires : goal.print-requires

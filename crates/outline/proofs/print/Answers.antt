@@ -7,7 +7,6 @@ use Rattle.schedule.specs.Schedule.{Schedule}
 use Rattle.outline.specs.Outline.{outline_of, schedule}
 use Rattle.outline.specs.Writing.{Stands}
 use Rattle.outline.proofs.Schedules.{outline-schedule}
-use borrow.Author.Rules.{rules}
 use Rattle.outline.proofs.print.Goals as goal
 
 -- the outline stands in the beats from the first on

@@ -1,11 +1,9 @@
 -- `outline::printable` meets its contract: the refusals of the schedule, and then 12. Assumes nothing.
 use mathlib.Core.Path.{◌≡◌, sym, ◌∙◌}
-use borrow.Author.Tests.{leb-true, leb-false}
 use Rattle.refusal.specs.declared.Verdict.{Verdict}
 use Rattle.refusal.specs.Rows.{judge}
 use Rattle.outline.specs.Answers.{closed_rows}
-use Rattle.outline.proofs.Verdicts.{closed-schedule, room-refused, room-short, room-enough}
-use borrow.Author.Rules.{rules}
+use Rattle.outline.proofs.Verdicts.{closed-schedule}
 use Rattle.outline.proofs.printable.Goals as goal
 
 pub fits-requires : goal.fits-requires

@@ -1,13 +1,10 @@
 -- `outline::repeat` meets its contract: a byte more each turn; what it reads stands before all that it writes.
 -- Assumes nothing.
-use mathlib.Core.Path.{◌≡◌, refl, ◌∙◌, subst}
-use Prim.Native.Nat.{ℕ, ◌+◌, ◌-◌, ◌≤◌}
+use mathlib.Core.Path.{◌∙◌}
+use Prim.Native.Nat.{◌+◌}
 use native.Mathlib.Omega.{arith}
-use lib.ListN.{length, length-set, get_or}
-use Rattle.text.specs.Written.{Written}
-use Rattle.outline.specs.Writing.{part}
-use Rattle.outline.proofs.Keeping.{repeated-none, repeated-more}
-use borrow.Author.Rules.{rules}
+use lib.ListN.{length-set, get_or}
+use Rattle.outline.proofs.Keeping.{repeated-more}
 use Rattle.outline.proofs.repeat.Goals as goal
 
 pub loop-i-preserved : goal.loop-i-preserved

@@ -1,13 +1,10 @@
 -- `outline::repeat` meets its contract: a byte more each turn; what it reads stands before all that it writes.
 -- Assumes nothing.
-use mathlib.Core.Path.{◌≡◌, refl, ◌∙◌, subst}
-use Prim.Native.Nat.{ℕ, ◌+◌, ◌-◌, ◌≤◌}
-use native.Mathlib.Omega.{arith}
-use lib.ListN.{length, length-set, get_or}
+use mathlib.Core.Path.{◌≡◌}
+use Prim.Native.Nat.{◌+◌, ◌-◌, ◌≤◌}
+use lib.ListN.{length}
 use Rattle.text.specs.Written.{Written}
 use Rattle.outline.specs.Writing.{part}
-use Rattle.outline.proofs.Keeping.{repeated-none, repeated-more}
-use borrow.Author.Rules.{rules}
 use Rattle.outline.proofs.repeat.Given as goal
 
 abbrev pub invariant-loop-i : goal.invariant-loop-i

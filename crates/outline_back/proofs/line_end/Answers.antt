@@ -13,7 +13,6 @@ use Rattle.outline.proofs.Numbers.{part_length}
 use Rattle.outline_back.specs.Reading.{Stood}
 use Rattle.outline_back.proofs.Standing.{stood-yes, stood-no, stood-within, stood-then, stood-never}
 use Rattle.outline_back.proofs.Line.{written-front, line-there, line_other}
-use borrow.Author.Rules.{rules}
 use Rattle.outline_back.proofs.line_end.Goals as goal
 
 pub returns-then-not-under_it : goal.returns-then-not-under_it

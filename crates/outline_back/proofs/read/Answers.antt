@@ -1,10 +1,8 @@
 -- `outline_back::read` meets its contract: the text is an outline's exactly if its lines and it were read to their end.
 -- Assumes nothing.
-use mathlib.Core.Logic.{⊎_elim}
 use native.Mathlib.Omega.{arith}
 use Rattle.outline_back.proofs.Headings.{reads-beats}
 use Rattle.outline_back.proofs.Whole.{found-whole, found-broken}
-use borrow.Author.Rules.{rules}
 use Rattle.outline_back.proofs.read.Goals as goal
 use Rattle.outline_back.proofs.read.Goals.{then-end-eq0+else-end-text, else-end-eq0}
 

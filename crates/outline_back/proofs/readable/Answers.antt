@@ -1,18 +1,11 @@
 -- `outline_back::readable` meets its contract: a refusal by size, or what reading into a room of its own finds.
 -- Assumes nothing.
-use mathlib.Core.List.{List}
 use mathlib.Core.Path.{◌≡◌, ◌∙◌, sym}
-use Prim.Native.Nat.{ℕ, ◌+◌, ◌≤◌}
-use native.Mathlib.Omega.{arith}
 use lib.ListN.{length}
-use lib.Seq.{length-take-le}
 use Rattle.refusal.specs.declared.Verdict.{Verdict}
 use Rattle.refusal.specs.Rows.{judge}
-use Rattle.triangle.specs.Count.{largest}
 use Rattle.outline_back.specs.Back.{back_rows, unfit}
-use Rattle.outline_back.proofs.Sizes.{sizes-right}
 use Rattle.outline_back.proofs.Whole.{back_some}
-use borrow.Author.Rules.{rules}
 use Rattle.outline_back.proofs.readable.Goals as goal
 
 pub returns-in-Refused : goal.returns-in-Refused

@@ -2,13 +2,10 @@
 use mathlib.Core.List.{List, ◌++◌}
 use mathlib.Core.Path.{◌≡◌, ◌∙◌, ap, sym}
 use Prim.Native.Nat.{ℕ}
-use native.Mathlib.Omega.{arith}
 use lib.ListN.{length, drop}
 use lib.Seq.{take-length}
 use Rattle.schedule.proofs.Copied.{copied}
-use Rattle.outline_back.proofs.Sizes.{sizes-right}
 use Rattle.outline_back.proofs.Whole.{back_whole, back-broken}
-use borrow.Author.Rules.{rules}
 use Rattle.outline_back.proofs.rebuild.Goals as goal
 
 pub returns-in-Refused : goal.returns-in-Refused

@@ -1,9 +1,6 @@
 -- `outline_back::stands` meets its contract. The loop's invariant: the bytes of the piece that were compared stand in
 -- the text. The measure is the bytes still to compare. Assumes nothing.
-use Prim.Native.Nat.{◌-◌}
-use lib.ListN.{length}
-use Rattle.outline_back.proofs.Standing.{Begun, begun-none, begun_more, stood-short, stood-other, stood-whole}
-use borrow.Author.Rules.{rules}
+use Rattle.outline_back.proofs.Standing.{stood-short, stood-other, stood-whole}
 use Rattle.outline_back.proofs.stands.Goals as goal
 
 pub returns-then-text-at : goal.returns-then-text-at

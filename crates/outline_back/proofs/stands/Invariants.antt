@@ -2,8 +2,7 @@
 -- the text. The measure is the bytes still to compare. Assumes nothing.
 use Prim.Native.Nat.{◌-◌}
 use lib.ListN.{length}
-use Rattle.outline_back.proofs.Standing.{Begun, begun-none, begun_more, stood-short, stood-other, stood-whole}
-use borrow.Author.Rules.{rules}
+use Rattle.outline_back.proofs.Standing.{Begun}
 use Rattle.outline_back.proofs.stands.Given as goal
 
 abbrev pub invariant-loop-i : goal.invariant-loop-i

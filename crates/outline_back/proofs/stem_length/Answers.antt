@@ -5,7 +5,6 @@ use native.Mathlib.Omega.{arith}
 use lib.ListN.{length, length-append}
 use Rattle.outline.proofs.Numbers.{stem-some}
 use Rattle.outline_back.proofs.Line.{stem-empty}
-use borrow.Author.Rules.{rules}
 use Rattle.outline_back.proofs.stem_length.Goals as goal
 
 pub returns-then-long-eq0 : goal.returns-then-long-eq0

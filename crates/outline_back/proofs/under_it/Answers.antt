@@ -8,7 +8,6 @@ use Rattle.outline.proofs.Numbers.{part_length}
 use Rattle.outline_back.specs.Reading.{Stood}
 use Rattle.outline_back.proofs.Standing.{stood-yes, stood-no, stood-within}
 use Rattle.outline_back.proofs.Line.{stem-none, stem-other, stem-then}
-use borrow.Author.Rules.{rules}
 use Rattle.outline_back.proofs.under_it.Goals as goal
 
 pub returns-then-long-eq0 : goal.returns-then-long-eq0

@@ -7,7 +7,6 @@ use Rattle.reason.specs.Explanation.{places_of}
 use Rattle.text.specs.Written.{Written}
 use Rattle.reason_line.specs.Line.{places_text}
 use Rattle.reason_line.proofs.Writing.{written-two, written-four}
-use borrow.Author.Rules.{rules}
 use Rattle.reason_line.proofs.changed_text.Goals as goal
 
 pub returns-in-Two : goal.returns-in-Two

@@ -1,7 +1,5 @@
 -- `reason_line::counted` meets its contract: each part is written after the one before. Assumes nothing.
-use native.Mathlib.Omega.{arith}
 use Rattle.reason_line.proofs.Writing.{written-counted}
-use borrow.Author.Rules.{rules}
 use Rattle.reason_line.proofs.counted.Goals as goal
 
 pub returns : goal.returns

@@ -7,7 +7,6 @@ use Rattle.reason.specs.Explanation.{values_of}
 use Rattle.text.specs.Written.{Written}
 use Rattle.reason_line.specs.Line.{explained_line}
 use Rattle.reason_line.proofs.Writing.{one-form-line, last_line, next-line, found-line}
-use borrow.Author.Rules.{rules}
 use Rattle.reason_line.proofs.explained.Goals as goal
 
 -- the line of a reason is that of the case in which it is known

@@ -2,7 +2,6 @@
 use native.Mathlib.Omega.{arith}
 use Rattle.reason.specs.Explanation.{places_of}
 use Rattle.reason_line.proofs.Writing.{written-found}
-use borrow.Author.Rules.{rules}
 use Rattle.reason_line.proofs.found_text.Goals as goal
 
 pub returns : goal.returns

@@ -1,7 +1,6 @@
 -- `schedule::bad_beat` meets its contract. The loop's invariant: all but the last `left` beats are 0 or 1. The measure
 -- is `left`, which falls by one a turn. Assumes nothing.
-use native.Mathlib.Omega.{arith}
-use Rattle.schedule.proofs.Scan.{Sound, sound-start, sound-turn, sound-end, sound-stop}
+use Rattle.schedule.proofs.Scan.{Sound}
 use Rattle.schedule.proofs.bad_beat.Given as goal
 
 abbrev pub invariant-loop-left : goal.invariant-loop-left

@@ -7,22 +7,13 @@ use borrow.Author.Rules.{rules}
 use lib.IntN.{ℤ, pos, ◌-ℤ◌}
 use lib.ListN.{length}
 use lib.Seq.{take_all}
-use Rattle.refusal.specs.declared.Refusal.TheVariants.{BadBeat, EmptyHand, WrongTakeUps}
+use Rattle.refusal.specs.declared.Refusal.TheVariants.{WrongTakeUps}
 use Rattle.refusal.specs.declared.Verdict.{Verdict}
 use Rattle.triangle.specs.Count.{largest, most_beats}
 use Rattle.counts.proofs.Sizes.{counts-allowed}
 use Rattle.schedule.specs.Schedule.{ones, zeros}
 use Rattle.schedule.specs.Check.{bad_beat, empty_hand}
-use Rattle.schedule.proofs.Rows.{
-  sound-beats,
-  ones-by-hand,
-  hand-ones,
-  wrong-length,
-  bad-beat,
-  empty-hand,
-  wrong-take-ups,
-  accepted,
-}
+use Rattle.schedule.proofs.Rows.{sound-beats, ones-by-hand, hand-ones, wrong-take-ups, accepted}
 use Rattle.schedule.proofs.Tally.{tally}
 use Rattle.schedule.proofs.check_beats.Goals as goal
 

@@ -2,10 +2,10 @@
 -- hand, and `hand` is in hand there. The measure is what is left of the length, and each turn goes on by
 -- one beat. Assumes nothing.
 use mathlib.Core.Path.{refl}
-use Prim.Native.Nat.{◌-◌, ◌≤◌}
+use Prim.Native.Nat.{◌≤◌}
 use native.Mathlib.Omega.{arith}
-use lib.ListN.{length, get_or}
-use Rattle.schedule.proofs.Scan.{Playing, play-start, play-turn, play-end, play-stop}
+use lib.ListN.{get_or}
+use Rattle.schedule.proofs.Scan.{play-start, play-turn, play-end, play-stop}
 use Rattle.schedule.proofs.play.Goals as goal
 
 pub loop-at-init : goal.loop-at-init

@@ -1,11 +1,9 @@
 -- `schedule::play` meets its contract. The loop's invariant: no beat before `at` sets down with nothing in
 -- hand, and `hand` is in hand there. The measure is what is left of the length, and each turn goes on by
 -- one beat. Assumes nothing.
-use mathlib.Core.Path.{refl}
-use Prim.Native.Nat.{◌-◌, ◌≤◌}
-use native.Mathlib.Omega.{arith}
-use lib.ListN.{length, get_or}
-use Rattle.schedule.proofs.Scan.{Playing, play-start, play-turn, play-end, play-stop}
+use Prim.Native.Nat.{◌-◌}
+use lib.ListN.{length}
+use Rattle.schedule.proofs.Scan.{Playing}
 use Rattle.schedule.proofs.play.Given as goal
 
 abbrev pub invariant-loop-at : goal.invariant-loop-at

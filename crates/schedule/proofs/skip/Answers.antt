@@ -1,9 +1,6 @@
 -- `schedule::skip` meets its contract. The loop's invariant: the beats from `from` up to `at` are the beat that is
 -- skipped. The measure is what is left of the length, and each turn goes on by one beat. Assumes nothing.
-use Prim.Native.Nat.{◌-◌}
-use native.Mathlib.Omega.{arith}
-use lib.ListN.{length}
-use Rattle.schedule.proofs.Skipping.{Skipping, skip-start, skip-turn, skip-end, skip_stop}
+use Rattle.schedule.proofs.Skipping.{skip-end, skip_stop}
 use Rattle.schedule.proofs.skip.Goals as goal
 
 pub returns-then-beats-at : goal.returns-then-beats-at

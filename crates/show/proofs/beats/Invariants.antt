@@ -1,6 +1,5 @@
 -- `show::beats` is safe and ends. The invariant: the next beat to print is inside, or they are all
 -- printed. Assumes nothing.
-use borrow.Author.Rules.{rules}
 use Prim.Native.Nat.{◌≤◌, ◌-◌}
 use lib.ListN.{length}
 use mathlib.Core.Path.{◌≡◌}

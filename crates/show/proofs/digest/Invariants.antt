@@ -1,5 +1,4 @@
 -- `show::digest` is safe and ends. The invariant: the digest stays below its modulus. Assumes nothing.
-use borrow.Author.Rules.{rules}
 use Prim.Native.Nat.{◌≤◌, ◌<◌, ◌-◌}
 use lib.ListN.{length}
 use mathlib.Core.Path.{◌≡◌}

@@ -1,5 +1,4 @@
 -- `show::raise` is safe and ends. The invariant: the list keeps its length. Assumes nothing.
-use borrow.Author.Rules.{rules}
 use Prim.Native.Nat.{◌≤◌, ◌-◌}
 use lib.ListN.{length}
 use mathlib.Core.Path.{◌≡◌}

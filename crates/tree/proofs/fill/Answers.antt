@@ -1,24 +1,13 @@
 -- `tree::fill` meets its contract. The loop's invariant: the beats from `at` on are words of trees, whose
 -- roots are on the stack and whose links stand in the tables from `row` on. The measure is `at`, and each turn
 -- takes one. Assumes nothing.
-use mathlib.Core.List.{List}
-use mathlib.Core.Path.{◌≡◌, refl, ◌∙◌, sym}
-use Prim.Native.Nat.{ℕ, suc, ◌+◌, ◌-◌, ◌≤◌, ◌<◌}
+use mathlib.Core.Path.{◌≡◌, refl, ◌∙◌}
+use Prim.Native.Nat.{suc, ◌+◌, ◌-◌, ◌≤◌, ◌<◌}
 use native.Mathlib.Omega.{arith}
-use borrow.Author.Rules.{rules}
 use lib.ListN.{length, get_or, length-set}
 use Rattle.triangle.specs.Count.{largest}
 use Rattle.schedule.specs.Schedule.{Schedule}
-use Rattle.tree.proofs.Planted.{
-  Planted,
-  planted-start,
-  planted-down,
-  down-room,
-  planted-up,
-  up_room,
-  planted-roots,
-  planted-all,
-}
+use Rattle.tree.proofs.Planted.{planted-start, planted-down, down-room, planted-up, up_room, planted-roots, planted-all}
 use Rattle.tree.proofs.fill.Goals as goal
 
 pub loop-at-init : goal.loop-at-init

@@ -1,6 +1,5 @@
 -- `tree::tree` meets its contract: a refusal is that of the sizes or of the check, and leaves what was lent; else the
 -- tables are filled. Assumes nothing.
-use mathlib.Core.List.{List}
 use mathlib.Core.Path.{◌≡◌, ◌∙◌, sym, subst}
 use Prim.Native.Nat.{ℕ}
 use lib.ListN.{length}
@@ -9,7 +8,6 @@ use Rattle.refusal.specs.Rows.{judge}
 use Rattle.schedule.specs.Check.{checked}
 use Rattle.tree.specs.Table.{Has, lent_rows, filled, kept}
 use Rattle.tree.proofs.Sizes.{sizes-right, tree-unfit, tree-checked, taken-closed}
-use borrow.Author.Rules.{rules}
 use Rattle.tree.proofs.tree.Goals as goal
 
 pub fill-requires : goal.fill-requires

@@ -1,16 +1,13 @@
 -- `tree_back::rebuild` meets its contract: what was read is copied where the tables have it. Assumes nothing.
 use mathlib.Core.List.{List, ◌++◌}
 use mathlib.Core.Path.{◌≡◌, ◌∙◌, ap, sym, subst}
-use Prim.Native.Nat.{ℕ, ◌+◌, ◌≤◌}
+use Prim.Native.Nat.{ℕ}
 use lib.ListN.{length, drop}
 use lib.Seq.{take-length}
-use Rattle.triangle.specs.Count.{largest}
 use Rattle.tree.specs.Table.{Has}
 use Rattle.tree_back.specs.Back.{found, none}
-use Rattle.tree.proofs.Sizes.{sizes-right}
 use Rattle.schedule.proofs.Copied.{copied}
 use Rattle.tree_back.proofs.Tracing.{traced-whole, traced-broken}
-use borrow.Author.Rules.{rules}
 use Rattle.tree_back.proofs.rebuild.Goals as goal
 
 pub returns-then-trace : goal.returns-then-trace

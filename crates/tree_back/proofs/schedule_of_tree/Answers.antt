@@ -1,18 +1,7 @@
 -- `tree_back::schedule_of_tree` meets its contract: a refusal by size leaves what was lent; else the way back is made
 -- in the room of its own. Assumes nothing.
-use mathlib.Core.List.{List}
-use mathlib.Core.Path.{◌≡◌, ◌∙◌, sym, subst}
-use Prim.Native.Nat.{ℕ, ◌+◌, ◌≤◌}
-use native.Mathlib.Omega.{arith}
-use lib.ListN.{length}
-use lib.Seq.{length-take-le}
-use Rattle.refusal.specs.declared.Verdict.{Verdict}
-use Rattle.refusal.specs.Rows.{judge}
-use Rattle.triangle.specs.Count.{largest}
-use Rattle.tree.specs.Table.{lent_rows}
-use Rattle.tree_back.specs.Back.{Untreed, unfit}
-use Rattle.tree.proofs.Sizes.{sizes-right}
-use borrow.Author.Rules.{rules}
+use mathlib.Core.Path.{◌∙◌, sym}
+use Rattle.tree_back.specs.Back.{unfit}
 use Rattle.tree_back.proofs.schedule_of_tree.Goals as goal
 
 pub returns-in-Refused : goal.returns-in-Refused

@@ -2,24 +2,11 @@
 -- tables have, and with what is still to be read they make one. The measure is the beats still to write, and each turn
 -- writes one. Assumes nothing.
 use mathlib.Core.Path.{◌≡◌, refl, ◌∙◌, sym}
-use Prim.Native.Nat.{ℕ, suc, ◌+◌, ◌-◌, ◌≤◌, ◌<◌}
+use Prim.Native.Nat.{suc, ◌+◌, ◌<◌}
 use native.Mathlib.Omega.{arith}
-use borrow.Author.Rules.{rules}
-use borrow.Author.Tests.{not-true, not-false}
 use lib.ListN.{length, get_or, length-set}
-use Rattle.triangle.specs.Count.{largest}
 use Rattle.tree_back.specs.Tracing.{broken}
-use Rattle.tree_back.proofs.Tracing.{
-  Traced-to,
-  trace-start,
-  trace-leaf,
-  trace-node,
-  trace-stuck,
-  trace-other,
-  trace-end,
-  next-so,
-  next-not,
-}
+use Rattle.tree_back.proofs.Tracing.{trace-start, trace-leaf, trace-node, trace-stuck, trace-other, trace-end, next-so, next-not}
 use Rattle.tree_back.proofs.trace.Goals as goal
 
 pub loop-at-init : goal.loop-at-init

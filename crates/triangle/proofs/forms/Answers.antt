@@ -1,6 +1,5 @@
 -- `triangle::forms` meets its contract: the table's entry is the count. Assumes nothing.
 use mathlib.Core.Path.{◌∙◌}
-use borrow.Author.Rules.{rules}
 use Rattle.triangle.proofs.Rule.{at-counted}
 use Rattle.triangle.proofs.forms.Goals as goal
 

@@ -1,7 +1,6 @@
 -- `triangle::inside` meets its contract: the table holds N. Assumes nothing.
 use mathlib.Core.Path.{◌∙◌}
 use native.Mathlib.Omega.{arith}
-use borrow.Author.Rules.{rules}
 use Rattle.triangle.proofs.Rule.{at-N}
 use Rattle.triangle.proofs.inside.Goals as goal
 

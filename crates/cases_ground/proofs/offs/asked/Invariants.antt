@@ -1,5 +1,5 @@
 -- `cases_ground::offs::asked` is safe and ends. The invariant: the list keeps its length. Assumes nothing.
-use Rattle.std.proofs.Common.{◌≡◌, ◌-◌, ◌≤◌, length, rules}
+use Rattle.std.proofs.Common.{◌≡◌, ◌-◌, ◌≤◌, length}
 use Rattle.cases_ground.proofs.offs.asked.Given as goal
 
 abbrev pub invariant-loop-word : goal.invariant-loop-word

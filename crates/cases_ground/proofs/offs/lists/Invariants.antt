@@ -1,5 +1,5 @@
 -- `cases_ground::offs::lists` is safe and ends: t stays below 14. Assumes nothing.
-use Rattle.std.proofs.Common.{◌-◌, ◌≤◌, rules}
+use Rattle.std.proofs.Common.{◌-◌, ◌≤◌}
 use Rattle.cases_ground.proofs.offs.lists.Given as goal
 
 abbrev pub invariant-loop-t : goal.invariant-loop-t

@@ -1,5 +1,5 @@
 -- `cases_ground::offs::row` is safe and ends: s is at most 12. Assumes nothing.
-use Rattle.std.proofs.Common.{◌-◌, ◌≤◌, rules}
+use Rattle.std.proofs.Common.{◌-◌, ◌≤◌}
 use Rattle.cases_ground.proofs.offs.row.Given as goal
 
 abbrev pub invariant-loop-s : goal.invariant-loop-s

@@ -1,5 +1,5 @@
 -- `cases_ground::tables::accepted` is safe and ends. The invariant: no more are found than were tried. Assumes nothing.
-use Rattle.std.proofs.Common.{◌≡◌, ◌-◌, ◌≤◌, length, ⊎_elim, rules}
+use Rattle.std.proofs.Common.{◌≡◌, ◌-◌, ◌≤◌, length}
 use Rattle.cases_ground.proofs.tables.accepted.Given as goal
 
 abbrev pub invariant-loop-word : goal.invariant-loop-word

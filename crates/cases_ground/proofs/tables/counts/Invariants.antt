@@ -1,5 +1,5 @@
 -- `cases_ground::tables::counts` is safe and ends: the row stays inside the table. Assumes nothing.
-use Rattle.std.proofs.Common.{◌+◌, ◌-◌, ◌≤◌, rules}
+use Rattle.std.proofs.Common.{◌+◌, ◌-◌, ◌≤◌}
 use Rattle.triangle.specs.Count.{largest}
 use Rattle.cases_ground.proofs.tables.counts.Given as goal
 

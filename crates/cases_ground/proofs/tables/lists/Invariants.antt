@@ -1,5 +1,5 @@
 -- `cases_ground::tables::lists` is safe and ends: the row stays in the table. Assumes nothing.
-use Rattle.std.proofs.Common.{◌-◌, ◌≤◌, rules}
+use Rattle.std.proofs.Common.{◌-◌, ◌≤◌}
 use Rattle.cases_ground.proofs.tables.lists.Given as goal
 
 abbrev pub invariant-loop-t : goal.invariant-loop-t

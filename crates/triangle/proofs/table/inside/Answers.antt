@@ -3,9 +3,8 @@
 use mathlib.Core.Path.{◌∙◌, sym}
 use Prim.Native.Nat.{◌≤◌, ◌<◌}
 use native.Mathlib.Omega.{arith}
-use Rattle.triangle.specs.Count.{largest}
 use Rattle.triangle.specs.Table.{middle_row, high_row}
-use Rattle.triangle.proofs.Parts.{place-below, place-from, pair-le, low-at, middle-at, high-at}
+use Rattle.triangle.proofs.Parts.{place-below, place-from, low-at, middle-at, high-at}
 use Rattle.triangle.proofs.table.inside.Goals as goal
 
 pub in_low-requires : goal.in_low-requires

@@ -1,7 +1,6 @@
 -- `triangle::table::listed` meets its contract: outside the table there is nothing, and inside the array is
 -- the list. Assumes nothing.
 use mathlib.Core.Path.{sym}
-use borrow.Author.Rules.{rules}
 use Rattle.triangle.proofs.Rule.{at-row-outside, at-column-outside}
 use Rattle.triangle.proofs.table.listed.Goals as goal
 
