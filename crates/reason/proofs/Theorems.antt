@@ -9,7 +9,7 @@
 --     changed-count    there are as many as the step answers [X8]
 --     values_one       no two reasons say the same, so a call has one answer [X4]
 -- Assumes nothing.
-use mathlib.Core.Bool.{true, false, true≢false}
+use mathlib.Core.Bool.{true≢false}
 use mathlib.Core.List.{List, [], ◌∷◌}
 use mathlib.Core.Path.{◌≡◌, refl, ◌∙◌, ap, ap₂, sym, subst}
 use Prim.Native.Nat.{ℕ, suc, pred, ◌<◌}

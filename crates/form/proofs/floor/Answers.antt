@@ -1,7 +1,5 @@
 -- `form::floor` meets its contract. Assumes nothing.
 use mathlib.Core.Path.{◌∙◌}
-use native.Mathlib.Omega.{arith}
-use borrow.Author.Rules.{rules}
 use Rattle.form.proofs.Writing.{floor-zero, floor-more}
 use Rattle.form.proofs.floor.Goals as goal
 

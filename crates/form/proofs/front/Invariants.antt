@@ -1,7 +1,5 @@
 -- `form::front` meets its contract: each turn writes one beat more before the place, from the last on. Assumes nothing.
-use native.Mathlib.Omega.{arith}
-use borrow.Author.Rules.{rules}
-use Rattle.form.proofs.Filling.{Fronted, front-none, front-turn, front-all}
+use Rattle.form.proofs.Filling.{Fronted}
 use Rattle.form.proofs.front.Given as goal
 
 abbrev pub invariant-loop-at : goal.invariant-loop-at

@@ -4,24 +4,11 @@ use mathlib.Core.Bool.{not}
 use mathlib.Core.Path.{◌≡◌, refl, ◌∙◌, ap}
 use Prim.Native.Nat.{ℕ, ◌-◌, ◌≤◌}
 use native.Mathlib.Omega.{arith}
-use borrow.Author.Rules.{rules}
 use mir.Val.{bool_byte}
 use lib.Dec.{ltb}
-use lib.ListN.{length, length-set}
+use lib.ListN.{length-set}
 use Rattle.triangle.specs.Count.{N}
-use Rattle.triangle.proofs.Rule.{N-fits}
-use Rattle.form.proofs.Writing.{
-  Behind,
-  behind-none,
-  behind-some,
-  floor-some,
-  floor-within,
-  next-within,
-  less-within,
-  one-within,
-  behind-turn,
-  behind-all,
-}
+use Rattle.form.proofs.Writing.{behind-some, floor-some, floor-within, next-within, one-within, behind-turn, behind-all}
 use Rattle.form.proofs.write.Goals as goal
 
 pub overflow_sub-at : goal.overflow_sub-at

@@ -1,27 +1,8 @@
 -- `form::write` meets its contract: each turn writes one beat more of the form, from the last on, until what is left is
 -- ones and then zeros. Assumes nothing.
-use mathlib.Core.Bool.{not}
-use mathlib.Core.Path.{◌≡◌, refl, ◌∙◌, ap}
-use Prim.Native.Nat.{ℕ, ◌-◌, ◌≤◌}
-use native.Mathlib.Omega.{arith}
-use borrow.Author.Rules.{rules}
-use mir.Val.{bool_byte}
-use lib.Dec.{ltb}
-use lib.ListN.{length, length-set}
-use Rattle.triangle.specs.Count.{N}
-use Rattle.triangle.proofs.Rule.{N-fits}
-use Rattle.form.proofs.Writing.{
-  Behind,
-  behind-none,
-  behind-some,
-  floor-some,
-  floor-within,
-  next-within,
-  less-within,
-  one-within,
-  behind-turn,
-  behind-all,
-}
+use mathlib.Core.Path.{◌≡◌}
+use lib.ListN.{length}
+use Rattle.form.proofs.Writing.{Behind}
 use Rattle.form.proofs.write.Given as goal
 
 abbrev pub invariant-loop-k : goal.invariant-loop-k

@@ -1,18 +1,15 @@
 -- `list` meets its contract: the line of what reading answered. Assumes nothing.
-use mathlib.Core.List.{List}
 use mathlib.Core.Path.{◌≡◌, ◌∙◌, ap, sym, subst}
-use Prim.Native.Nat.{ℕ, ◌+◌, ◌≤◌}
+use Prim.Native.Nat.{◌+◌, ◌≤◌}
 use native.Mathlib.Omega.{arith}
 use lib.ListN.{length, take}
 use lib.Seq.{length-take-le}
 use Rattle.triangle.specs.Count.{largest, most_beats}
 use Rattle.refusal.specs.declared.Verdict.{Verdict}
 use Rattle.record.specs.Record.{long, layout_in, ups, downs, body, meant, eaten}
-use Rattle.record.specs.declared.reading.Order.{Order}
 use Rattle.schedule.specs.Schedule.{Schedule}
 use Rattle.stream.specs.Stream.{verdict_on}
 use Rattle.lists.proofs.Listing.{Ordered, ordered, turned_down, list-accepted, list-refused}
-use borrow.Author.Rules.{rules}
 use Rattle.lists.proofs.list.Goals as goal
 
 pub accepted-bytes-requires : goal.accepted-bytes-requires

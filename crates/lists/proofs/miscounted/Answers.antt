@@ -3,7 +3,7 @@ use mathlib.Core.Bool.{Bool, cond}
 use mathlib.Core.Path.{◌≡◌, ◌∙◌, ap, ap₂, sym, subst, subst₂}
 use Prim.Native.Nat.{ℕ, ◌≤◌}
 use native.Mathlib.Omega.{arith}
-use borrow.Author.Tests.{eq-eqb, ne_eqb}
+use borrow.Author.Tests.{eq-eqb}
 use lib.IntN.{ℤ, pos, nat_abs, ◌+ℤ◌}
 use lib.ListN.{length}
 use mir.Syntax.{w32}
@@ -16,7 +16,6 @@ use Rattle.reason_line.specs.Line.{counted_line}
 use Rattle.text.specs.Written.{Written}
 use Rattle.lists.specs.Listed.{ones_in}
 use Rattle.lists.proofs.Listing.{six-there}
-use borrow.Author.Rules.{rules}
 use Rattle.lists.proofs.miscounted.Goals as goal
 
 pub ones_found-found-requires : goal.ones_found-found-requires

@@ -5,7 +5,7 @@ use mathlib.Core.List.{[], ◌∷◌, ◌++◌}
 use mathlib.Core.Path.{sym, subst}
 use Prim.Native.Nat.{ℕ, ◌+◌, ◌*◌, ◌≤◌}
 use native.Mathlib.Omega.{arith}
-use borrow.Author.Tests.{eq-eqb, ne_eqb}
+use borrow.Author.Tests.{eq-eqb}
 use lib.ListN.{length}
 use Rattle.refusal.specs.declared.Refusal.TheVariants.{NotClosed}
 use Rattle.triangle.specs.Count.{largest}
@@ -15,7 +15,6 @@ use Rattle.outline.proofs.Bound.{bound-largest, printed-bound}
 use Rattle.text.specs.Written.{Written}
 use Rattle.text.proofs.Writing.{written_then}
 use Rattle.lists.specs.Listed.{apart}
-use borrow.Author.Rules.{rules}
 use Rattle.lists.proofs.outlined.Goals as goal
 
 pub print-past_outline-requires : goal.print-past_outline-requires

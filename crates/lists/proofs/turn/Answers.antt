@@ -1,6 +1,5 @@
 -- `turn` meets its contract: a pass, and then an exchange. Assumes nothing.
 use Rattle.stream.proofs.Stops.{ready}
-use borrow.Author.Rules.{rules}
 use Rattle.lists.proofs.turn.Goals as goal
 
 pub exchange-requires : goal.exchange-requires

@@ -1,12 +1,9 @@
 -- `reason::explain` meets its contract: a refusal is the check's, and an accepted schedule has its reason. Assumes
 -- nothing.
-use mathlib.Core.Path.{◌≡◌, ◌∙◌, ap, sym}
-use borrow.Author.Rules.{rules}
+use mathlib.Core.Path.{◌≡◌, ◌∙◌, sym}
 use Rattle.refusal.specs.declared.Verdict.{Verdict}
 use Rattle.schedule.specs.Check.{checked}
 use Rattle.circle.proofs.Forms.{accepted-form}
-use Rattle.reason.specs.Explanation.{explanation_of}
-use Rattle.reason.specs.Answers.{unless-refused}
 use Rattle.reason.proofs.explain.Goals as goal
 
 pub reason_of-requires : goal.reason_of-requires

@@ -1,6 +1,5 @@
 -- `reason_of` meets its contract, one shape of the schedule at each return. Assumes nothing.
 use native.Mathlib.Omega.{arith}
-use borrow.Author.Rules.{rules}
 use Rattle.circle.proofs.Stores.{Found, find, found-order}
 use Rattle.reason.proofs.Reasons.{tell_none, tell-alone, tell-last}
 use Rattle.reason.proofs.Reasons.{tell-closes, tell-lifts, tell-levels, tell-dips}

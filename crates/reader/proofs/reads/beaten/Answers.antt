@@ -1,17 +1,11 @@
 -- `reads::beaten` meets its contract: L is wrong for the kind, or the packed beats decide. Assumes nothing.
-use mathlib.Core.List.{List}
-use mathlib.Core.Path.{◌≡◌, refl, ◌∙◌, ap}
+use mathlib.Core.Path.{◌≡◌, ap}
 use Prim.Native.Nat.{ℕ, ◌+◌, ◌-◌, ◌≤◌}
 use native.Mathlib.Omega.{arith}
 use lib.ListN.{length, take, drop}
-use Rattle.refusal.proofs.Left.{left-refused}
-use Rattle.refusal.specs.declared.Refusal.TheVariants.{WrongSize}
 use Rattle.record.specs.Record.{long, longest}
-use Rattle.record.specs.declared.reading.Reading.{Reading}
 use Rattle.reader.proofs.Heads.{whole_long}
-use Rattle.reader.proofs.Verdicts.{told-refused}
-use Rattle.reader.proofs.Answering.{beaten-long, beaten-answer, beaten-left}
-use borrow.Author.Rules.{rules}
+use Rattle.reader.proofs.Answering.{beaten-answer, beaten-left}
 use Rattle.reader.proofs.reads.beaten.Goals as goal
 
 pub returns : goal.returns

@@ -2,8 +2,7 @@
 -- less. Assumes nothing.
 use mathlib.Core.Path.{sym}
 use native.Mathlib.Omega.{arith}
-use Rattle.reader.proofs.Numberings.{held_stays, held-last, held-before}
-use borrow.Author.Rules.{rules}
+use Rattle.reader.proofs.Numberings.{held-last}
 use Rattle.reader.proofs.reads.before.Goals as goal
 
 pub returns-then-number-eq0 : goal.returns-then-number-eq0

@@ -7,20 +7,17 @@ use native.Mathlib.Omega.{arith}
 use lib.ListN.{length, take, drop}
 use lib.Seq.{length-take-le}
 use Rattle.form.specs.Answers.{number_rows, form_rows}
-use Rattle.refusal.proofs.Left.{left-part, left-refused}
+use Rattle.refusal.proofs.Left.{left-part}
 use Rattle.refusal.specs.Answer.{left}
 use Rattle.refusal.specs.declared.Verdict.{Verdict}
 use Rattle.refusal.specs.Rows.{judge}
 use Rattle.triangle.specs.Count.{N, largest, most_beats}
 use Rattle.counts.proofs.Sizes.{counts-allowed}
 use Rattle.number.specs.Number.{number_of, form_of}
-use Rattle.form.proofs.Verdicts.{number-refused}
-use Rattle.record.specs.declared.layout.Numbering.{Numbering}
 use Rattle.record.specs.Record.{form_by}
 use Rattle.reader.specs.Answers.{told, catalogued}
 use Rattle.reader.proofs.Numberings.{held_rows, held-told, held-left}
-use Rattle.reader.proofs.Verdicts.{late-counts, late-number, told-refused, told-accepted, form-number}
-use borrow.Author.Rules.{rules}
+use Rattle.reader.proofs.Verdicts.{told-accepted, form-number}
 use Rattle.reader.proofs.reads.formed.Goals as goal
 
 pub returns-in-Accepted-verdict : goal.returns-in-Accepted-verdict

@@ -4,31 +4,17 @@ use mathlib.Core.Bool.{true}
 use mathlib.Core.List.{List}
 use mathlib.Core.Path.{◌≡◌, refl, ◌∙◌, ap, sym}
 use Prim.Native.Nat.{ℕ, ◌+◌}
-use borrow.Author.Tests.{not-true, not-false}
 use lib.Dec.{eqb}
-use lib.ListN.{length}
-use Rattle.refusal.proofs.Left.{left-accepted, left-refused}
-use Rattle.refusal.specs.declared.Verdict.{Verdict}
+use Rattle.refusal.proofs.Left.{left-refused}
 use Rattle.refusal.specs.Answer.{answer}
 use Rattle.refusal.specs.Rows.{judge}
-use Rattle.refusal.proofs.Theorems.{answer-refused, answer-value}
+use Rattle.refusal.proofs.Theorems.{answer-refused}
 use Rattle.schedule.specs.Check.{checked}
-use Rattle.schedule.proofs.Copied.{copied}
 use Rattle.number.specs.Number.{number_of}
 use Rattle.record.specs.Bytes.{unpacked, unused}
 use Rattle.record.specs.Record.{packed_rows}
 use Rattle.record.proofs.Packing.{length-tabulate}
-use Rattle.reader.specs.Answers.{told}
-use Rattle.reader.proofs.Verdicts.{
-  late-check,
-  told-refused,
-  told-accepted,
-  hand-checked,
-  spoiled-bits,
-  spoiled-not,
-  unpacked-beats,
-}
-use borrow.Author.Rules.{rules}
+use Rattle.reader.proofs.Verdicts.{late-check, told-refused, hand-checked, spoiled-not, unpacked-beats}
 use Rattle.reader.proofs.reads.spread.Goals as goal
 
 pub returns-in-Refused : goal.returns-in-Refused

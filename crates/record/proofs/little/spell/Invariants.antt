@@ -1,9 +1,8 @@
 -- `little::spell` meets its contract. The loop's invariant: the bytes so far, and those of the rest, are the number's.
 -- The measure is the bytes still to write, and each turn writes one. Assumes nothing.
 use Prim.Native.Nat.{◌-◌}
-use borrow.Author.Rules.{rules}
 use lib.ListN.{length}
-use Rattle.record.proofs.Numerals.{Spelled, spelled-start, spelled-more, spelled-all}
+use Rattle.record.proofs.Numerals.{Spelled}
 use Rattle.record.proofs.little.spell.Given as goal
 
 abbrev pub invariant-loop-at : goal.invariant-loop-at

@@ -2,8 +2,7 @@
 -- is `at`, and each turn takes one. Assumes nothing.
 use Prim.Native.Nat.{◌-◌, ◌<◌}
 use native.Mathlib.Omega.{arith}
-use borrow.Author.Rules.{rules}
-use Rattle.record.proofs.Numerals.{Bytes, Valued, valued-start, valued-more, valued-small, valued-all}
+use Rattle.record.proofs.Numerals.{Bytes, valued-start, valued-more, valued-small}
 use Rattle.record.proofs.little.value.Goals as goal
 
 pub loop-at-init : goal.loop-at-init

@@ -1,9 +1,6 @@
 -- `little::value` meets its contract. The loop's invariant: the number is that of the bytes from `at` on. The measure
 -- is `at`, and each turn takes one. Assumes nothing.
-use Prim.Native.Nat.{◌-◌, ◌<◌}
-use native.Mathlib.Omega.{arith}
-use borrow.Author.Rules.{rules}
-use Rattle.record.proofs.Numerals.{Bytes, Valued, valued-start, valued-more, valued-small, valued-all}
+use Rattle.record.proofs.Numerals.{Valued}
 use Rattle.record.proofs.little.value.Given as goal
 
 abbrev pub invariant-loop-at : goal.invariant-loop-at

@@ -1,9 +1,8 @@
 -- `pack::octet` meets its contract. The loop's invariant: the byte is what the beats so far spell. The measure is the
 -- beats left of eight. Assumes nothing.
-use Prim.Native.Nat.{◌-◌, ◌+◌}
+use Prim.Native.Nat.{◌+◌}
 use native.Mathlib.Omega.{arith}
-use Rattle.record.proofs.Packing.{Octet, octet-start, octet-small, octet-more, octet-all}
-use borrow.Author.Rules.{rules}
+use Rattle.record.proofs.Packing.{octet-start, octet-small, octet-more}
 use Rattle.record.proofs.pack.octet.Goals as goal
 
 pub loop-at-init : goal.loop-at-init

@@ -1,9 +1,7 @@
 -- `pack::octet` meets its contract. The loop's invariant: the byte is what the beats so far spell. The measure is the
 -- beats left of eight. Assumes nothing.
-use Prim.Native.Nat.{◌-◌, ◌+◌}
-use native.Mathlib.Omega.{arith}
-use Rattle.record.proofs.Packing.{Octet, octet-start, octet-small, octet-more, octet-all}
-use borrow.Author.Rules.{rules}
+use Prim.Native.Nat.{◌-◌}
+use Rattle.record.proofs.Packing.{Octet}
 use Rattle.record.proofs.pack.octet.Given as goal
 
 abbrev pub invariant-loop-at : goal.invariant-loop-at

@@ -1,12 +1,6 @@
 -- `pack::pack` meets its contract. The loop's invariant: the bytes so far are packed. The measure is the bytes still
 -- to write. Assumes nothing.
-use mathlib.Core.Path.{◌∙◌, ap}
-use Prim.Native.Nat.{ℕ, ◌-◌, ◌*◌}
-use native.Mathlib.Omega.{arith}
-use lib.ListN.{length, drop}
-use Rattle.record.specs.Bytes.{spell, tabulate}
-use Rattle.record.proofs.Packing.{Filled, filled-start, filled_more, filled-all}
-use borrow.Author.Rules.{rules}
+use Rattle.record.proofs.Packing.{filled-start, filled_more}
 use Rattle.record.proofs.pack.pack.Goals as goal
 
 pub loop-at-init : goal.loop-at-init

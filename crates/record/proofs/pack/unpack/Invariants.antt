@@ -1,11 +1,8 @@
 -- `pack::unpack` meets its contract. The loop's invariant: the beats so far, and the bits left of the byte in hand. The
 -- measure is the beats still to write. Assumes nothing.
 use Prim.Native.Nat.{◌-◌}
-use native.Mathlib.Omega.{arith}
 use lib.ListN.{length}
-use Rattle.record.proofs.Numerals.{Bytes}
-use Rattle.record.proofs.Packing.{Unpacked, unpacked-start, unpacked-more, unpacked-all}
-use borrow.Author.Rules.{rules}
+use Rattle.record.proofs.Packing.{Unpacked}
 use Rattle.record.proofs.pack.unpack.Given as goal
 
 abbrev pub invariant-loop-at : goal.invariant-loop-at

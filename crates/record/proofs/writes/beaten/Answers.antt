@@ -1,8 +1,8 @@
 -- `writes::beaten` meets its contract: a refusal is the check's, or 12, and leaves what was lent; else head and packed
 -- beats make the record. Assumes nothing.
-use mathlib.Core.List.{List, ◌++◌}
+use mathlib.Core.List.{◌++◌}
 use mathlib.Core.Path.{◌≡◌, ◌∙◌, ap, sym}
-use Prim.Native.Nat.{ℕ, ◌+◌, ◌-◌, ◌≤◌, ◌<◌}
+use Prim.Native.Nat.{◌+◌, ◌-◌, ◌≤◌, ◌<◌}
 use native.Mathlib.Omega.{arith}
 use lib.ListN.{length, take, drop, length-drop}
 use lib.Seq.{length-take-le}
@@ -20,8 +20,7 @@ use Rattle.refusal.specs.declared.Answer.{Answer}
 use Rattle.refusal.specs.Answer.{answer}
 use Rattle.refusal.specs.declared.Refusal.TheVariants.{NoRoom}
 use Rattle.record.proofs.Packing.{all-beats}
-use Rattle.record.proofs.Writing.{packed-size, record-made, beaten-size, write-refused, write-short, write-taken}
-use borrow.Author.Rules.{rules}
+use Rattle.record.proofs.Writing.{packed-size, record-made, beaten-size, write-short, write-taken}
 use Rattle.record.proofs.writes.beaten.Goals as goal
 
 pub returns-then-out-past : goal.returns-then-out-past

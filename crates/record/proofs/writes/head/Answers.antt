@@ -1,13 +1,9 @@
 -- `writes::head` meets its contract: six stores. Assumes nothing.
-use mathlib.Core.List.{List}
 use mathlib.Core.Path.{◌∙◌, ap}
 use Prim.Native.Nat.{ℕ, ◌+◌, ◌/◌, ◌%◌}
-use native.Mathlib.Omega.{arith}
 use lib.ListN.{set}
-use lib.Seq.{lt-length-set}
 use Rattle.record.specs.Bytes.{low_first}
 use Rattle.record.proofs.Writing.{headed}
-use borrow.Author.Rules.{rules}
 use Rattle.record.proofs.writes.head.Goals as goal
 
 pub returns : goal.returns

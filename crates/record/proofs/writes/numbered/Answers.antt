@@ -1,15 +1,14 @@
 -- `writes::numbered` meets its contract: a refusal is the check's, or 12, and leaves what was lent; else head and
 -- number make the record. Assumes nothing.
-use mathlib.Core.List.{List, ◌++◌}
+use mathlib.Core.List.{◌++◌}
 use mathlib.Core.Path.{◌≡◌, ◌∙◌, ap, sym}
-use Prim.Native.Nat.{ℕ, ◌+◌, ◌-◌, ◌<◌}
+use Prim.Native.Nat.{ℕ, ◌+◌, ◌-◌}
 use native.Mathlib.Omega.{arith}
 use lib.ListN.{length, take, drop, length-drop}
 use lib.Seq.{length-take-le}
 use Rattle.refusal.specs.declared.Verdict.{Verdict}
-use Rattle.refusal.proofs.Theorems.{answer-refused, answer-value}
+use Rattle.refusal.proofs.Theorems.{answer-value}
 use Rattle.schedule.specs.Check.{checked}
-use Rattle.schedule.proofs.Theorems.{accepted-schedule}
 use Rattle.circle.proofs.Forms.{refused-so}
 use Rattle.number.specs.Number.{number_of}
 use Rattle.record.specs.declared.layout.Layout.{Layout}
@@ -20,8 +19,7 @@ use Rattle.refusal.specs.declared.Answer.{Answer}
 use Rattle.refusal.specs.Answer.{answer}
 use Rattle.refusal.specs.declared.Refusal.TheVariants.{NoRoom}
 use Rattle.record.proofs.Numerals.{length-low}
-use Rattle.record.proofs.Writing.{record-made, numbered-size, write-refused, write-short, write-taken}
-use borrow.Author.Rules.{rules}
+use Rattle.record.proofs.Writing.{record-made, numbered-size, write-short, write-taken}
 use Rattle.record.proofs.writes.numbered.Goals as goal
 
 pub returns-then-out-end : goal.returns-then-out-end

@@ -1,8 +1,5 @@
 -- `moving::exchange` meets its contract. Assumes nothing.
-use mathlib.Core.Path.{sym}
-use lib.Seq.{length-take-le}
-use Rattle.stream.proofs.Onwards.{on-unwritten, on-over, on-again, on-fed, has_room}
-use borrow.Author.Rules.{rules}
+use Rattle.stream.proofs.Onwards.{on-unwritten, on-over, on-again, on-fed}
 use Rattle.stream.proofs.moving.exchange.Goals as goal
 
 pub returns-then-not-send : goal.returns-then-not-send

@@ -1,9 +1,6 @@
 -- `moving::slide` meets its contract. The loop's invariant: the first k bytes are moved, and the others are as they
 -- were. The measure is the bytes still to move. Assumes nothing.
-use Prim.Native.Nat.{◌-◌}
-use native.Mathlib.Omega.{arith}
-use Rattle.stream.proofs.Sliding.{Slid, slid-start, slid-more, slid-all}
-use borrow.Author.Rules.{rules}
+use Rattle.stream.proofs.Sliding.{slid-more}
 use Rattle.stream.proofs.moving.slide.Goals as goal
 
 pub loop-k-preserved : goal.loop-k-preserved
