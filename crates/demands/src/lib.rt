@@ -23,7 +23,7 @@ fn count(t: u64, s: u64) -> Answer
 }
 
 fn check(t: u64, s: u64, beats: &[u8]) -> Verdict
-    ensures { Gives (call.check t s beats.now) result [] (beats.now ∷ []) }
+    ensures { Gives (call.check t s beats.now) result [] (beats.exit.now ∷ []) }
 {
     schedule::check(t, s, beats)
 }
@@ -37,7 +37,7 @@ fn next(t: u64, s: u64, beats: &mut [u8]) -> Answer
 
 fn changed(t: u64, s: u64, beats: &[u8]) -> Answer
     ensures { Gives (call.changed call.next t s beats.now) (verdict result) (value result ∷ [])
-        (beats.now ∷ []) }
+        (beats.exit.now ∷ []) }
 {
     circle::changed(t, s, beats)
 }
@@ -51,7 +51,7 @@ fn run(t: u64, s: u64, beats: &mut [u8], k: u64) -> Answer
 
 fn run_changed(t: u64, s: u64, beats: &[u8], k: u64) -> Answer
     ensures { Gives (call.changed (call.run k) t s beats.now) (verdict result) (value result ∷ [])
-        (beats.now ∷ []) }
+        (beats.exit.now ∷ []) }
 {
     circle::run_changed(t, s, beats, k)
 }
@@ -65,7 +65,7 @@ fn previous(t: u64, s: u64, beats: &mut [u8]) -> Answer
 
 fn previous_changed(t: u64, s: u64, beats: &[u8]) -> Answer
     ensures { Gives (call.changed call.previous t s beats.now) (verdict result) (value result ∷ [])
-        (beats.now ∷ []) }
+        (beats.exit.now ∷ []) }
 {
     circle_back::previous_changed(t, s, beats)
 }
@@ -79,21 +79,21 @@ fn run_back(t: u64, s: u64, beats: &mut [u8], k: u64) -> Answer
 
 fn run_back_changed(t: u64, s: u64, beats: &[u8], k: u64) -> Answer
     ensures { Gives (call.changed (call.run-back k) t s beats.now) (verdict result) (value result ∷ [])
-        (beats.now ∷ []) }
+        (beats.exit.now ∷ []) }
 {
     circle_back::run_back_changed(t, s, beats, k)
 }
 
 fn explain(t: u64, s: u64, beats: &[u8]) -> Explained
     ensures { Gives (call.explain t s beats.now) (told.verdict result) (numbers (told.values result))
-        (beats.now ∷ []) }
+        (beats.exit.now ∷ []) }
 {
     reason::explain(t, s, beats)
 }
 
 fn number(t: u64, s: u64, beats: &[u8]) -> Answer
-    ensures { Gives (call.number t s beats.now) (verdict result) (value result ∷ []) (beats.now
-        ∷ []) }
+    ensures { Gives (call.number t s beats.now) (verdict result) (value result ∷ [])
+        (beats.exit.now ∷ []) }
 {
     number::number(t, s, beats)
 }
@@ -111,45 +111,43 @@ fn form_on_sheet(t: u64, s: u64, n: u64, sheet: &mut [u8], column: u64) -> Verdi
 }
 
 fn tree(n: u64, beats: &[u8], left: &mut [u8], right: &mut [u8], parent: &mut [u8]) -> Verdict
-    ensures { Gives (call.tree n beats.now left.old right.old
-        parent.old) result [] (beats.now ∷ left.new ∷ right.new ∷ parent.new
-        ∷ []) }
+    ensures { Gives (call.tree n beats.now left.old right.old parent.old) result []
+        (beats.exit.now ∷ left.new ∷ right.new ∷ parent.new ∷ []) }
 {
     tree::tree(n, beats, left, right, parent)
 }
 
 fn schedule_of_tree(n: u64, left: &[u8], right: &[u8], parent: &[u8], out: &mut [u8]) -> Verdict
-    ensures { Gives (call.schedule-of-tree n left.now right.now parent.now
-        out.old) result [] (left.now ∷ right.now ∷ parent.now ∷ out.new
-        ∷ []) }
+    ensures { Gives (call.schedule-of-tree n left.now right.now parent.now out.old) result []
+        (left.exit.now ∷ right.exit.now ∷ parent.exit.now ∷ out.new ∷ []) }
 {
     tree_back::schedule_of_tree(n, left, right, parent, out)
 }
 
 fn outline(t: u64, s: u64, beats: &[u8], text: &mut [u8]) -> Answer
-    ensures { Gives (call.outline t s beats.now text.old) (verdict result) (value result
-        ∷ []) (beats.now ∷ text.new ∷ []) }
+    ensures { Gives (call.outline t s beats.now text.old) (verdict result) (value result ∷ [])
+        (beats.exit.now ∷ text.new ∷ []) }
 {
     outline::outline(t, s, beats, text)
 }
 
 fn schedule_of_outline(n: u64, text: &[u8], out: &mut [u8]) -> Verdict
     ensures { Gives (call.schedule-of-outline n text.now out.old) result []
-        (text.now ∷ out.new ∷ []) }
+        (text.exit.now ∷ out.new ∷ []) }
 {
     outline_back::schedule_of_outline(n, text, out)
 }
 
 fn read(src: &[u8], out: &mut [u8]) -> Reading
     ensures { Gives (call.read src.now out.old) (said.verdict result) (said.t result ∷ said.s result
-        ∷ said.number result ∷ said.consumed result ∷ []) (src.now ∷ out.new ∷ []) }
+        ∷ said.number result ∷ said.consumed result ∷ []) (src.exit.now ∷ out.new ∷ []) }
 {
     reader::read(src, out)
 }
 
 fn write(kind: u64, t: u64, s: u64, beats: &[u8], out: &mut [u8]) -> Answer
     ensures { Gives (call.write kind t s beats.now out.old) (verdict result) (value result
-        ∷ []) (beats.now ∷ out.new ∷ []) }
+        ∷ []) (beats.exit.now ∷ out.new ∷ []) }
 {
     record::write(kind, t, s, beats, out)
 }

@@ -1,10 +1,12 @@
-// The library for a C host: the manual, "What we ship". Each function here is a C function on 64-bit numbers and lent
-// bytes, a slice being its pointer and then its length. A call answers one number: the refusal, the place, the surplus
-// and the value of check, count, number and outline are asked for by a call each, and so is each part of an
-// explanation; form, the steps and the runs, on and back, and the way back from an outline answer their refusal, and
+// The library for a C host: the manual, "What we ship". Each function `gv_` here is a C function on 64-bit numbers and
+// lent bytes, a slice being its pointer and then its length. A call of one answers one number: the refusal, the place,
+// the surplus and the value of check, count, number and outline are asked for by a call each, and so is each part of
+// an explanation; form, the steps and the runs, on and back, and the way back from an outline answer their refusal, and
 // what a step or a run would change comes from calls that write nothing. Nothing is kept from call to call. The
 // contracts cite the definitions of the crates below, each by an equation; but that of the way back from an outline is
-// a relation, which one answer fits (`back_one` of its crate). [W3] [F4] [P13] [D1a] [P1]
+// a relation, which one answer fits (`back_one` of its crate). The three passes `list_packing`, `list_explaining` and
+// `list_outlining` are for the C of this library, which reads and writes: they tell what a pass over a window did, and
+// their contract is that of a pass. [W3] [F4] [P13] [D1a] [P1]
 #![tactic(auto)]
 
 ghost use Rattle.std.specs.Prelude.{List, ◌≡◌, ℕ, ◌≤◌, get_or};

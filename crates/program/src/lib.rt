@@ -1,6 +1,6 @@
 // What the programs of the gate that print a list have in common: order records from standard input, the lines of each
 // to standard output. They are thin over `lists::list_all`, as the commands of the C host are over the C functions
-// (host/command.c), tell a failure in the same words, and end with the same statuses. [E4] [X10]
+// (host/command.c), tell a failure in one line as they do, and end with the same statuses. [E4] [X10]
 #![tactic(auto)]
 
 ghost use Rattle.std.specs.Prelude.{◌≡◌, IfOk, Ok};

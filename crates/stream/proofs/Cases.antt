@@ -14,7 +14,8 @@ use Rattle.record.specs.Bytes.{value_of}
 use Rattle.stream.specs.declared.Front.{Front}
 use Rattle.stream.specs.declared.Pass.{Pass}
 use Rattle.stream.specs.declared.Stream.{Stream}
-use Rattle.stream.specs.Stream.{verdict_on, passing, passed, ending, ends, list_from, list_of, settled, front_of, front_number, Own}
+use Rattle.stream.specs.Stream.{verdict_on, passing, passed, ending, ends, list_from, list_of, settled, front_of}
+use Rattle.stream.specs.Stream.{front_number, Own}
 use Rattle.stream.specs.Exchange.{
   between,
   window,

@@ -15,7 +15,8 @@ put-requires c =
       omega (arith, c.field-past_s.ensures.upper_bound, past-t),
       c.field-past_s.auto.out ∙ past-t.1,
     ) in
-    let past-number : (c.field-past_number.result ≤ 63) × (length c.field-past_number.new.out ≡ length c.args.out.now) = (
+    let number = c.field-past_number in
+    let past-number : (number.result ≤ 63) × (length number.new.out ≡ length c.args.out.now) = (
       omega (arith, c.field-past_number.ensures.upper_bound, past-s),
       c.field-past_number.auto.out ∙ past-s.1,
     ) in

@@ -14,20 +14,20 @@ use Rattle.lists.proofs.list.Goals as goal
 
 pub accepted-bytes-requires : goal.accepted-bytes-requires
 accepted-bytes-requires c =
-    let says : Ordered (c.args.src.now) (c.args.room.now) c.requires.1 (c.in-Accepted.order) =
-    ordered (c.args.src.now) (c.args.room.now) c.requires.1 (c.in-Accepted.order)
+    let says : Ordered c.args.src.now c.args.room.now c.requires.1 c.in-Accepted.order =
+    ordered c.args.src.now c.args.room.now c.requires.1 c.in-Accepted.order
     (sym c.read_by-reading.ensures.value ∙ c.in-Accepted.is) in
     let room-long : length c.read_by-reading.new.out ≡ most_beats = c.read_by-reading.auto.out ∙ c.requires.1 in
-    let few : ((c.in-Accepted.order).t ≤ largest) × ((c.in-Accepted.order).s ≤ (c.in-Accepted.order).t)
+    let few : (c.in-Accepted.order.t ≤ largest) × (c.in-Accepted.order.s ≤ c.in-Accepted.order.t)
     × (length c.read_by-reading.new.out ≡ most_beats) = (says.few.0, says.few.1, (room-long)) in
-    let shown : take ((c.in-Accepted.order).t + (c.in-Accepted.order).s) c.read_by-reading.new.out
-    ≡ meant (layout_in (c.args.src.now)) (ups (c.args.src.now)) (downs (c.args.src.now)) (body (c.args.src.now)) =
-    ap (take ((c.in-Accepted.order).t + (c.in-Accepted.order).s)) c.read_by-reading.ensures.out_after
+    let shown : take (c.in-Accepted.order.t + c.in-Accepted.order.s) c.read_by-reading.new.out
+    ≡ meant (layout_in c.args.src.now) (ups c.args.src.now) (downs c.args.src.now) (body c.args.src.now) =
+    ap (take (c.in-Accepted.order.t + c.in-Accepted.order.s)) c.read_by-reading.ensures.out_after
     ∙ says.in-room in
     let wide = c.requires.2 in
     let size =
-    length-take-le ((c.in-Accepted.order).t + (c.in-Accepted.order).s) c.read_by-reading.new.out (omega (arith, few)) in (
-      subst (Schedule (c.in-Accepted.order).t (c.in-Accepted.order).s) (sym (shown)) says.schedule,
+    length-take-le (c.in-Accepted.order.t + c.in-Accepted.order.s) c.read_by-reading.new.out (omega (arith, few)) in (
+      subst (Schedule c.in-Accepted.order.t c.in-Accepted.order.s) (sym (shown)) says.schedule,
       says.few.0,
       omega (arith, wide, size, few),
       omega (arith, wide),
@@ -44,15 +44,15 @@ refused-bytes-requires c =
 
 pub returns-in-Accepted : goal.returns-in-Accepted
 returns-in-Accepted c =
-    let says : Ordered (c.args.src.now) (c.args.room.now) c.requires.1 (c.in-Accepted.order) =
-    ordered (c.args.src.now) (c.args.room.now) c.requires.1 (c.in-Accepted.order)
+    let says : Ordered c.args.src.now c.args.room.now c.requires.1 c.in-Accepted.order =
+    ordered c.args.src.now c.args.room.now c.requires.1 c.in-Accepted.order
     (sym c.read_by-reading.ensures.value ∙ c.in-Accepted.is) in
-    let shown : take ((c.in-Accepted.order).t + (c.in-Accepted.order).s) c.read_by-reading.new.out
-    ≡ meant (layout_in (c.args.src.now)) (ups (c.args.src.now)) (downs (c.args.src.now)) (body (c.args.src.now)) =
-    ap (take ((c.in-Accepted.order).t + (c.in-Accepted.order).s)) c.read_by-reading.ensures.out_after
+    let shown : take (c.in-Accepted.order.t + c.in-Accepted.order.s) c.read_by-reading.new.out
+    ≡ meant (layout_in c.args.src.now) (ups c.args.src.now) (downs c.args.src.now) (body c.args.src.now) =
+    ap (take (c.in-Accepted.order.t + c.in-Accepted.order.s)) c.read_by-reading.ensures.out_after
     ∙ says.in-room in
-    list-accepted c.args.which (c.args.src.now) c.args.out.now (c.args.room.now) c.requires.1
-    (c.in-Accepted.order) (says) _ (shown) c.accepted-bytes.ensures
+    list-accepted c.args.which c.args.src.now c.args.out.now c.args.room.now c.requires.1
+    c.in-Accepted.order (says) _ (shown) c.accepted-bytes.ensures
 
 pub returns-in-Refused : goal.returns-in-Refused
 returns-in-Refused c =

@@ -11,7 +11,8 @@ use Rattle.triangle.proofs.Rule.{N-fits}
 use Rattle.counts.specs.Counts.{Allowed}
 use Rattle.schedule.proofs.Skipping.{Skips, skipped-skips}
 use Rattle.number.specs.Ranking.{goes_on}
-use Rattle.number.proofs.Counting.{sized-parts, no-rank, ranked, goes_parts, level-parts, front-level, Counted, counted-below, counted-goes, counted-front, counted-turn, counted-all, counted-short}
+use Rattle.number.proofs.Counting.{sized-parts, no-rank, ranked, goes_parts, level-parts, front-level, Counted}
+use Rattle.number.proofs.Counting.{counted-below, counted-goes, counted-front, counted-turn, counted-all, counted-short}
 use Rattle.number.proofs.rank.Goals as goal
 
 pub overflow_sub-downs : goal.overflow_sub-downs

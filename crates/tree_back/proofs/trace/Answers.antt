@@ -6,7 +6,8 @@ use Prim.Native.Nat.{suc, ◌+◌, ◌<◌}
 use native.Mathlib.Omega.{arith}
 use lib.ListN.{length, get_or, length-set}
 use Rattle.tree_back.specs.Tracing.{broken}
-use Rattle.tree_back.proofs.Tracing.{trace-start, trace-leaf, trace-node, trace-stuck, trace-other, trace-end, next-so, next-not}
+use Rattle.tree_back.proofs.Tracing.{trace-start, trace-leaf, trace-node, trace-stuck, trace-other, trace-end, next-so}
+use Rattle.tree_back.proofs.Tracing.{next-not}
 use Rattle.tree_back.proofs.trace.Goals as goal
 
 pub loop-at-init : goal.loop-at-init

@@ -4,7 +4,7 @@ use Rattle.std.proofs.Common.{◌≡◌, ◌-◌, ◌≤◌, length, rules}
 use Rattle.cases_record.proofs.backs.ask_scattered.Given as goal
 
 abbrev pub invariant-loop : goal.invariant-loop
-invariant-loop l =    (length l.beats ≡ length l.initial.beats) × (l.counter ≤ 4)
+invariant-loop l = (length l.beats ≡ length l.initial.beats) × (l.counter ≤ 4)
 
 abbrev pub decreases-loop : goal.decreases-loop
 decreases-loop l = 4 - l.counter

@@ -3,7 +3,8 @@ use Rattle.std.proofs.Common.{◌≡◌, ◌-◌, ◌≤◌, length, rules}
 use Rattle.cases_record.proofs.spelled.spell.Given as goal
 
 abbrev pub invariant-loop-i : goal.invariant-loop-i
-invariant-loop-i l =    (length l.bytes ≡ length l.initial.bytes) × (l.i ≤ length l.initial.bytes) × (l.i-end ≡ length l.initial.bytes)
+invariant-loop-i l =
+    (length l.bytes ≡ length l.initial.bytes) × (l.i ≤ length l.initial.bytes) × (l.i-end ≡ length l.initial.bytes)
 
 abbrev pub decreases-loop-i : goal.decreases-loop-i
 decreases-loop-i l = length l.initial.bytes - l.i

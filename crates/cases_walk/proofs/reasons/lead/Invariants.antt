@@ -4,7 +4,8 @@ use Rattle.std.proofs.Common.{◌≡◌, ◌+◌, ◌-◌, ◌<◌, length, rule
 use Rattle.cases_walk.proofs.reasons.lead.Given as goal
 
 abbrev pub invariant-loop-at : goal.invariant-loop-at
-invariant-loop-at l =    (length l.beats ≡ length l.initial.beats) × (l.last < length l.initial.beats) × (l.at-end ≡ l.last + 1)
+invariant-loop-at l =
+    (length l.beats ≡ length l.initial.beats) × (l.last < length l.initial.beats) × (l.at-end ≡ l.last + 1)
 
 abbrev pub decreases-loop-at : goal.decreases-loop-at
 decreases-loop-at l = l.at-end - l.at

@@ -3,7 +3,8 @@ use Rattle.std.proofs.Common.{◌≡◌, ◌-◌, ◌≤◌, length, rules}
 use Rattle.cases_walk.proofs.reasons.led_round.Given as goal
 
 abbrev pub invariant-loop : goal.invariant-loop
-invariant-loop l =    (length l.led ≡ length l.initial.led) × (length l.beats ≡ length l.initial.beats) × (l.counter ≤ l.forms)
+invariant-loop l =
+    (length l.led ≡ length l.initial.led) × (length l.beats ≡ length l.initial.beats) × (l.counter ≤ l.forms)
 
 abbrev pub decreases-loop : goal.decreases-loop
 decreases-loop l = l.forms - l.counter
