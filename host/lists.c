@@ -26,8 +26,10 @@ struct passed {
 
 typedef void pass(const uint8_t *src, size_t length, bool ended, uint8_t *text, size_t room, struct passed *passed);
 
-/* Lists the records that a window starts with, while their lines have room. */
+/* Lists the records that a window starts with, while their lines have room. Not seen from outside the library. */
+#pragma GCC visibility push(hidden)
 pass list_packing, list_explaining, list_outlining;
+#pragma GCC visibility pop
 
 /* Writes all of a text, and answers whether that went well; a write that takes no byte has failed. [E17] */
 static bool send(int32_t to, const uint8_t *text, size_t length) {
