@@ -240,7 +240,7 @@ uint64_t gv_run_back_changed(uint64_t t, uint64_t s, const uint8_t *beats, size_
  * In: t, s, beats. Out, gv_outline alone: the text begins with the outline, which no 0 ends, and what stands after
  * it is what stood there; after a refusal, all is what it was. The other three write nothing.
  * The functions inside call each other, one for a list of headings and one for a heading, at most 65 calls deep
- * for 32 headings inside each other. These four, and the two below that read, need up to 8 KB of stack. [H15]
+ * for 32 headings inside each other. These four, and the two below that read, need up to 6 KB of stack. [H15]
  * [I1] [I4]
  */
 uint64_t gv_outline_refusal(uint64_t t, uint64_t s, const uint8_t *beats, size_t length, const uint8_t *text,
