@@ -26,8 +26,12 @@ struct passed {
 
 typedef void pass(const uint8_t *src, size_t length, bool ended, uint8_t *text, size_t room, struct passed *passed);
 
-/* Lists the records that a window starts with, while their lines have room. */
-pass list_packing, list_explaining, list_outlining;
+/*
+ * Lists the records that a window starts with, while their lines have room. These are joined into one object with this
+ * (host/build), so that no table of addresses is needed to call them. host/tests/header_agrees holds the declarations,
+ * and the struct, to the crate.
+ */
+__attribute__((visibility("hidden"))) pass list_packing, list_explaining, list_outlining;
 
 /* Writes all of a text, and answers whether that went well; a write that takes no byte has failed. [E17] */
 static bool send(int32_t to, const uint8_t *text, size_t length) {
