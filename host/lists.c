@@ -58,7 +58,8 @@ static ssize_t receive(int32_t from, uint8_t *room, size_t length) {
 
 /*
  * Pass after pass, to the end of the list. The lines of a pass are written before more is read, so that none waits
- * while the input does, and a read that fails loses none. What is unread stands from `at` up to `have`. [E16]
+ * while the input does, and a read that fails loses none. What is unread stands from `at` up to `have`. Each turn that
+ * goes on has listed a record, got bytes, or come to the end of the input. [E12] [E16]
  */
 static uint64_t list(pass *lister, int32_t from, int32_t to) {
     uint8_t input[BUFFER], text[BUFFER];
