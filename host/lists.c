@@ -26,10 +26,12 @@ struct passed {
 
 typedef void pass(const uint8_t *src, size_t length, bool ended, uint8_t *text, size_t room, struct passed *passed);
 
-/* Lists the records that a window starts with, while their lines have room. Not seen from outside the library. */
-#pragma GCC visibility push(hidden)
-pass list_packing, list_explaining, list_outlining;
-#pragma GCC visibility pop
+/*
+ * Lists the records that a window starts with, while their lines have room. These are joined into one object with this
+ * (host/build), so that no table of addresses is needed to call them. host/tests/header_agrees holds the declarations,
+ * and the struct, to the crate.
+ */
+__attribute__((visibility("hidden"))) pass list_packing, list_explaining, list_outlining;
 
 /* Writes all of a text, and answers whether that went well; a write that takes no byte has failed. [E17] */
 static bool send(int32_t to, const uint8_t *text, size_t length) {
@@ -56,7 +58,8 @@ static ssize_t receive(int32_t from, uint8_t *room, size_t length) {
 
 /*
  * Pass after pass, to the end of the list. The lines of a pass are written before more is read, so that none waits
- * while the input does, and a read that fails loses none. What is unread stands from `at` up to `have`. [E16]
+ * while the input does, and a read that fails loses none. What is unread stands from `at` up to `have`. Each turn that
+ * goes on has listed a record, got bytes, or come to the end of the input. [E12] [E16]
  */
 static uint64_t list(pass *lister, int32_t from, int32_t to) {
     uint8_t input[BUFFER], text[BUFFER];

@@ -1,5 +1,6 @@
 /*
- * The text of a refusal. It is the one function of the library that is C: the proved language answers no pointer.
+ * The text of a refusal. It is C because the proved language answers no pointer, and has no contract. The other
+ * functions of the library that are C are the lists of host/lists.c, over proved passes.
  * The texts are constants, so that threads may ask at the same time. host/tests/header_agrees holds every refusal
  * to a text of its own, and host/tests/manual_agrees the texts to ghanveltri(3). [E20]
  */

@@ -222,6 +222,8 @@ OF_VERDICT = line_of("crates/refusal/src/lib.rt", "why.number()")  # a line of V
 IN_CODE = f"note: src/lib.rt:{OF_VERDICT}:9: it is not proved that it holds (`returns`)"
 SHAM, LOG = f"crates/refusal/must-fail/{EDIT}.edit", "target/ci.log"
 HEADER, ARCHIVE, README = "include/ghanveltri.h", "target/host/libghanveltri.a", "README.md"
+EXPORTS, CALLER = "crates/ghanveltri/src/lib.rt", "host/lists.c"  # the passes that are exported, and the C that calls them
+BYTES, ENDED = "const uint8_t *src, size_t length,", "bool ended,"  # what a pass is given, in C
 PAGE, LIST_PAGE, EXAMPLE = "host/man/ghanveltri.3", "host/man/packing_list.1", "host/example.c"
 COMMAND, PROGRAM, EXPLAIN, EXPLAIN_PROGRAM, OUTLINE, OUTLINE_PROGRAM = PROGRAMS
 EXPLAIN_PAGE, EXPLAINING, OUTLINE_PAGE = "host/man/explain.1", "host/explaining.py", "host/man/outline_list.1"
@@ -411,6 +413,14 @@ BREAKS = {
         Break("fewer calls inside each other", HEADER, swap("at most 65 calls", "at most 33 calls"), ("nothing holds the 33", "'at most 65 calls")),
         Break("less stack said", HEADER, swap("up to 8 KB", "up to 6 KB"), ("bytes of stack, and the header says 6000",)),
         Break("numbers moved the other way", HEADER, swap("(n + N - 1) % N", "(n + 1) % N"), ("(n + N - 1) % N here",)),
+        Break("parameters of the passes exchanged in C", CALLER, swap(f"{BYTES} {ENDED}", f"{ENDED} {BYTES}"), ("list_packing of the C of the",)),
+        Break("a length of another width in C", CALLER, swap("uint8_t *text, size_t room", "uint8_t *text, int32_t room"), ("list_explaining of the C",)),
+        Break("a pass not declared in C", CALLER, swap("list_explaining, list_outlining;", "list_explaining;"), ("list_outlining is not in the C",)),
+        Break("fields exchanged in C", CALLER, swap("consumed, bytes, front;", "bytes, consumed, front;"), ("struct passed of the C of the lists is",)),
+        Break("a narrower field in C", CALLER, swap("    uint64_t consumed,", "    uint32_t consumed,"), ("struct passed of the C of the lists is",)),
+        Break("parameters of a pass exchanged", EXPORTS, swap("outlining(src: &[u8], ended: bool,", "outlining(ended: bool, src: &[u8],"), ("list_outlining of",)),
+        Break("a field of another width", EXPORTS, swap("    pub front: u64,", "    pub front: i32,"), ("struct passed of the C of the lists is",)),
+        Break("a layout that is not C's", EXPORTS, swap("#[repr(C)]\n", ""), ("struct passed of the C of the lists is not in the source",)),
         Break("the archive gone", ARCHIVE, gone, ("(cd crates/ghanveltri && rt lib)",)),
     ],
     "manual_agrees": [

@@ -126,7 +126,7 @@ def main(arguments):
     for name, said in edits.items():
         found += faults("/".join(name), said, known.get(name, "nothing, by the log"))
     found += page_faults(programs, len(edits))
-    return verdict(found, programs, f"wrong programs in {len(edits)} edits, each held to the fact that refuses it")
+    return verdict(found, programs, f"wrong programs in {len(edits)} edits, each edit held to the fact that refuses it")
 
 
 if __name__ == "__main__":

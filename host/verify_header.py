@@ -3,8 +3,9 @@
 
 The header alone compiles as C99 and as C++11. Each function gv_* that crates/ghanveltri exports, or that the C of the
 library defines, stands in the header with the same parameters, in the same order, under the same names and in the same
-widths, and it stands in the archive; neither has another. A slice is a pointer and then its length, which is
-called room for a text. The constants have the values of the crates. Every refusal has a text of its own. Every number in a comment is computed
+widths, and it stands in the archive; neither has another. The exports without gv_, which the C of the lists calls, are
+declared there in the same way, and the struct that they fill has the same fields, in the same order and widths. A slice
+is a pointer and then its length, which is called room for a text. The constants have the values of the crates. Every refusal has a text of its own. Every number in a comment is computed
 here, or listed with what holds it, and every mark is a claim. The archive brings no other name and no memory that can
 be written, and it needs nothing but the C library's memory functions, its read and write, and errno.
 
@@ -19,12 +20,14 @@ import tempfile
 
 import oracle
 import packing
-from header import ARCHIVE, HEADER, HOW, constants, declared, output, prototype, prototypes, refusals, texts
+from header import ARCHIVE, HEADER, HOW, constants, declarator, declared, output, parameter, prototype, prototypes
+from header import refusals, texts
 from listing import LISTED, NOT_READ, NOT_WRITTEN
 from verifying import ROOT, verdict
 
 CRATES = ROOT / "crates"
 BUILD = ROOT / "host/build"  # its line joined=(..) has the C of the library
+IN_C = ROOT / "host/lists.c"  # the C that calls the exports without gv_
 SAMPLE = CRATES / "packing_list/stdin"
 
 STRICT = ("-pedantic", "-Wall", "-Wextra", "-Werror")
@@ -38,6 +41,10 @@ LENGTHS = {"text": "room"}  # of slices, where they are not called length
 UNKNOWN = "unknown refusal"
 
 EXPORT = re.compile(r'#\[unsafe\(no_mangle\)\]\s*pub extern "C" fn (\w+)\s*\(([^)]*)\)(?:\s*->\s*(\w+))?')
+SHARED = re.compile(r"#\[repr\(C\)\]\s*(?:#\[[^]]*\]\s*)*pub struct (\w+) \{([^}]*)\}")
+FUNCTION_TYPE = re.compile(r"\btypedef (\w+) (\w+)\(([^)]*)\);")
+STRUCT = re.compile(r"\bstruct (\w+) \{([^}]*)\};")
+HIDDEN = re.escape('__attribute__((visibility("hidden")))')
 SYMBOL = re.compile(r"^[0-9a-f ]{16} (\w) (.+)$", re.M)
 COMMENT = re.compile(r"/\*.*?\*/|//[^\n]*", re.S)
 MARK = re.compile(r"\[([A-Z]+\d+[a-z]?)\]")
@@ -125,27 +132,57 @@ def in_c(name, kind):
     return {
         "u64": [("uint64_t", name)],
         "i32": [("int32_t", name)],
+        "bool": [("_Bool", name)],
         "usize": [("size_t", name)],
         "&[u8]": [("const uint8_t *", name), length],
         "&mut [u8]": [("uint8_t *", name), length],
+        "&mut Passed": [("struct passed *", name)],
     }.get(kind, [(f"no C type for {kind}", name)])
 
 
+def pairs(text):
+    """The names and the types in Rattle's list of parameters or fields."""
+    return [[part.strip() for part in one.split(":", 1)] for one in text.split(",") if one.strip()]
+
+
 def exported():
-    """The C view of each exported function of the crates."""
-    functions = {}
+    """The C view of each exported function: those of the header, and those that the C of the lists calls."""
+    outer, inner = {}, {}
     for path in sorted(CRATES.glob("ghanveltri/src/**/*.rt")):
         text = source(path.relative_to(CRATES))
         found = EXPORT.findall(text)
         if len(found) != text.count("no_mangle"):
             raise SystemExit(f"{path.relative_to(ROOT)}: an exported function is not understood")
         for name, parameters, result in found:
-            if not name.startswith("gv_"):
-                continue  # the C of the library calls it, and it is hidden in the archive
-            each = [map(str.strip, part.split(":", 1)) for part in parameters.split(",") if part.strip()]
             answer = in_c("", result)[0][0] if result else "void"
-            functions[name] = prototype(name, answer, [c for own, kind in each for c in in_c(own, kind)])
-    return functions
+            functions = outer if name.startswith("gv_") else inner
+            functions[name] = prototype(name, answer, [c for own, kind in pairs(parameters) for c in in_c(own, kind)])
+    return outer, inner
+
+
+def shared():
+    """The C view of each struct of the crates that has C's layout: its fields, in their order."""
+    text = source("ghanveltri/src/lib.rt")
+    structs = {}
+    for name, body in SHARED.findall(text):
+        fields = pairs(re.sub(r"\bpub ", "", body))
+        structs[name.lower()] = [declarator(*c) for own, kind in fields for c in in_c(own, kind)]
+    return structs
+
+
+def called_by_c():
+    """The functions that the C of the lists declares by a type of functions, and the structs that these are given."""
+    text = re.sub(r"\s+", " ", output("gcc", "-E", "-P", "-std=c99", f"-I{HEADER.parent}", IN_C))
+    functions, structs = {}, {}
+    for result, kind, parameters in FUNCTION_TYPE.findall(text):
+        for names in re.findall(rf"(?<=[;}}] )(?:{HIDDEN} )?{kind} (\w+(?:, \w+)*);", text):
+            each = [parameter(part) for part in parameters.split(",")]
+            functions |= {name: prototype(name, result, each) for name in names.split(", ")}
+    for name, body in STRUCT.findall(text):
+        if any(f"struct {name} *" in function for function in functions.values()):
+            parts = [part.strip().split(" ", 1) for part in body.split(";") if part.strip()]
+            structs[name] = [declarator(kind, own) for kind, names in parts for own in names.split(", ")]
+    return functions, structs
 
 
 def defined_in_c():
@@ -342,6 +379,13 @@ def differences(what, right, got, where):
             yield f"{what} {name} of the {where} is {got[name]}, in the source {right[name]}"
 
 
+def pass_faults(functions):
+    """Where the C of the lists declares an export, or the struct that it fills, otherwise than the source has it."""
+    got, structs = called_by_c()
+    yield from differences("function", functions, got, "C of the lists")
+    yield from differences("struct", shared(), structs, "C of the lists")
+
+
 def number_faults():
     """A number in a comment that is in no words that are held, and such words that no comment says."""
     said, right = [*comments()], held()
@@ -411,16 +455,18 @@ def main():
     if not ARCHIVE.exists():
         print(f"there is no {ARCHIVE}: {HOW}")
         return 1
-    functions = exported() | defined_in_c()
+    outer, inner = exported()
+    functions = outer | defined_in_c()
     faults = [*compile_faults()]
     if not faults:
         faults += differences("function", functions, declared(), "header")
+        faults += pass_faults(inner)
         faults += differences("constant", constants_of_crates(), constants(), "header")
         faults += [*mark_faults(), *number_faults()]
     faults += archive_faults(functions)
     if not faults:
         faults += [*text_faults(), *stack_faults()]
-    return verdict(faults, len(functions), "functions")
+    return verdict(faults, len(functions) + len(inner), "functions")
 
 
 if __name__ == "__main__":

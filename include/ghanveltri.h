@@ -102,7 +102,7 @@ uint64_t gv_version(void);
  * Answers a text for each refusal and for GV_ACCEPTED, and "unknown refusal" for any other number: one line of
  * ASCII without its line end, and never NULL. The bytes are the library's; nobody writes or frees them, and they
  * stay as long as it is loaded. A later version may word them otherwise.
- * In: refusal. It is the one function that is written in C, and not proved. [E20]
+ * In: refusal. It is written in C, and tested, not proved. The lists below are C too, over proved functions. [E20]
  */
 const char *gv_refusal_text(uint64_t refusal);
 
@@ -281,6 +281,8 @@ uint64_t gv_outline_read_place(uint64_t n, const uint8_t *text, size_t room, con
  * sets it to 0 before finds 0 then, or EINTR from a call that was made again.
  * In: from, a descriptor open for reading; to, one open for writing. Any other number is a failure like the
  * rest. Both stay open, and `from` may have been read past the record that stopped the list.
+ * They are written in C. What they list of the bytes that came, proved functions of the library say; that they
+ * read and write as said here is tested, not proved.
  * It waits as long as the system's read and write do, and needs up to 150 KB of stack. Signals are the
  * caller's affair: SIGPIPE (a reader left) and SIGXFSZ (a limit of size) end a process that does not ignore,
  * block or catch them. [E18] [X10] [I3]
