@@ -1,6 +1,6 @@
 -- `cases_number::numbers::ask_in_order` is safe and ends. The invariant: the schedule keeps its
 -- length. Assumes nothing.
-use Rattle.std.proofs.Common.{◌≡◌, ◌-◌, ◌≤◌, length, rules}
+use Rattle.std.proofs.Common.{◌≡◌, ◌-◌, ◌≤◌, length}
 use Rattle.cases_number.proofs.numbers.ask_in_order.Given as goal
 
 abbrev pub invariant-loop : goal.invariant-loop

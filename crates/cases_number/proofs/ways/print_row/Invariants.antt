@@ -1,5 +1,5 @@
 -- `cases_number::ways::print_row` is safe and ends: the column stays in the row. Assumes nothing.
-use Rattle.std.proofs.Common.{◌+◌, ◌-◌, ◌≤◌, rules}
+use Rattle.std.proofs.Common.{◌+◌, ◌-◌, ◌≤◌}
 use Rattle.triangle.specs.Count.{largest}
 use Rattle.cases_number.proofs.ways.print_row.Given as goal
 

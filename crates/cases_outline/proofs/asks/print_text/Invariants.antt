@@ -1,6 +1,6 @@
 -- `cases_outline::asks::print_text` is safe and ends. The invariant: the next byte to print is inside, or they are
 -- all printed. Assumes nothing.
-use Rattle.std.proofs.Common.{◌≡◌, ◌-◌, ◌≤◌, length, rules}
+use Rattle.std.proofs.Common.{◌≡◌, ◌-◌, ◌≤◌, length}
 use Rattle.cases_outline.proofs.asks.print_text.Given as goal
 
 abbrev pub invariant-loop-i : goal.invariant-loop-i

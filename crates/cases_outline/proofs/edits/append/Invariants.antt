@@ -1,6 +1,6 @@
 -- `cases_outline::edits::append` is safe and ends: what is copied ends inside the room. The invariant: the room keeps
 -- its length. Assumes nothing.
-use Rattle.std.proofs.Common.{◌≡◌, ◌+◌, ◌-◌, ◌≤◌, length, rules}
+use Rattle.std.proofs.Common.{◌≡◌, ◌+◌, ◌-◌, ◌≤◌, length}
 use Rattle.cases_outline.proofs.edits.append.Given as goal
 
 abbrev pub invariant-loop-i : goal.invariant-loop-i

@@ -1,5 +1,5 @@
 -- `cases_outline::edits::each` is safe and ends. The invariant: the text keeps its length. Assumes nothing.
-use Rattle.std.proofs.Common.{◌≡◌, ◌+◌, ◌-◌, ◌≤◌, length, rules}
+use Rattle.std.proofs.Common.{◌≡◌, ◌+◌, ◌-◌, ◌≤◌, length}
 use Rattle.cases_outline.proofs.edits.each.Given as goal
 
 abbrev pub invariant-loop-at : goal.invariant-loop-at

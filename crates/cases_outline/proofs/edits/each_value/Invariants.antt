@@ -1,5 +1,5 @@
 -- `cases_outline::edits::each_value` is safe and ends. The invariant: the text keeps its length. Assumes nothing.
-use Rattle.std.proofs.Common.{◌≡◌, ◌-◌, ◌≤◌, length, rules}
+use Rattle.std.proofs.Common.{◌≡◌, ◌-◌, ◌≤◌, length}
 use Rattle.cases_outline.proofs.edits.each_value.Given as goal
 
 abbrev pub invariant-loop-value : goal.invariant-loop-value

@@ -1,5 +1,5 @@
 -- `cases_outline::longest::alternate` is safe and ends. The invariant: the beats keep their length. Assumes nothing.
-use Rattle.std.proofs.Common.{◌≡◌, ◌-◌, ◌≤◌, length, rules}
+use Rattle.std.proofs.Common.{◌≡◌, ◌-◌, ◌≤◌, length}
 use Rattle.cases_outline.proofs.longest.alternate.Given as goal
 
 abbrev pub invariant-loop-i : goal.invariant-loop-i

@@ -1,5 +1,5 @@
 -- `cases_outline::longest::damage` is safe and ends. The invariant: the text keeps its length. Assumes nothing.
-use Rattle.std.proofs.Common.{◌≡◌, ◌-◌, ◌≤◌, length, rules}
+use Rattle.std.proofs.Common.{◌≡◌, ◌-◌, ◌≤◌, length}
 use Rattle.cases_outline.proofs.longest.damage.Given as goal
 
 abbrev pub invariant-loop-at : goal.invariant-loop-at

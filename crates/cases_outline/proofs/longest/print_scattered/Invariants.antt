@@ -1,6 +1,6 @@
 -- `cases_outline::longest::print_scattered` is safe and ends. The invariant: there are most_beats beats. Assumes
 -- nothing.
-use Rattle.std.proofs.Common.{◌≡◌, ◌-◌, ◌≤◌, length, rules}
+use Rattle.std.proofs.Common.{◌≡◌, ◌-◌, ◌≤◌, length}
 use Rattle.triangle.specs.Count.{most_beats}
 use Rattle.cases_outline.proofs.longest.print_scattered.Given as goal
 

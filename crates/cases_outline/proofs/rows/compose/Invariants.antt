@@ -1,5 +1,5 @@
 -- `cases_outline::rows::compose` is safe and ends. The invariant: the room keeps its length. Assumes nothing.
-use Rattle.std.proofs.Common.{◌≡◌, ◌-◌, ◌≤◌, length, rules}
+use Rattle.std.proofs.Common.{◌≡◌, ◌-◌, ◌≤◌, length}
 use Rattle.cases_outline.proofs.rows.compose.Given as goal
 
 abbrev pub invariant-loop : goal.invariant-loop

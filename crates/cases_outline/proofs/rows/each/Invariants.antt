@@ -1,6 +1,6 @@
 -- `cases_outline::rows::each` is safe and ends. The invariant: there are at most n + 1 lines in a row. Assumes
 -- nothing.
-use Rattle.std.proofs.Common.{◌≡◌, ◌+◌, ◌-◌, ◌≤◌, rules}
+use Rattle.std.proofs.Common.{◌≡◌, ◌+◌, ◌-◌, ◌≤◌}
 use Rattle.cases_outline.proofs.rows.each.Given as goal
 
 abbrev pub invariant-loop-count : goal.invariant-loop-count

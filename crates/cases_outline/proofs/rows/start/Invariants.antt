@@ -1,5 +1,5 @@
 -- `cases_outline::rows::start` is safe and ends. The invariant: the place is inside, or at the end. Assumes nothing.
-use Rattle.std.proofs.Common.{◌≡◌, ◌-◌, ◌≤◌, length, rules}
+use Rattle.std.proofs.Common.{◌≡◌, ◌-◌, ◌≤◌, length}
 use Rattle.cases_outline.proofs.rows.start.Given as goal
 
 abbrev pub invariant-loop-i : goal.invariant-loop-i

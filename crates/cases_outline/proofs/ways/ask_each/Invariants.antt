@@ -1,5 +1,5 @@
 -- `cases_outline::ways::ask_each` is safe and ends. The invariant: the beats keep their length. Assumes nothing.
-use Rattle.std.proofs.Common.{◌≡◌, ◌-◌, ◌≤◌, length, rules}
+use Rattle.std.proofs.Common.{◌≡◌, ◌-◌, ◌≤◌, length}
 use Rattle.cases_outline.proofs.ways.ask_each.Given as goal
 
 abbrev pub invariant-loop-x : goal.invariant-loop-x

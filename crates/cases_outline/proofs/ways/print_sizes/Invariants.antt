@@ -1,5 +1,5 @@
 -- `cases_outline::ways::print_sizes` is safe and ends. The invariant: n is at most the last. Assumes nothing.
-use Rattle.std.proofs.Common.{◌-◌, ◌≤◌, rules}
+use Rattle.std.proofs.Common.{◌-◌, ◌≤◌}
 use Rattle.cases_outline.proofs.ways.print_sizes.Given as goal
 
 abbrev pub invariant-loop-n : goal.invariant-loop-n

@@ -1,5 +1,5 @@
 -- `cases_tree::damage::ask_all` is safe and ends. The invariant: the case is at most the last. Assumes nothing.
-use Rattle.std.proofs.Common.{◌-◌, ◌*◌, ◌≤◌, rules}
+use Rattle.std.proofs.Common.{◌-◌, ◌*◌, ◌≤◌}
 use Rattle.triangle.specs.Count.{largest}
 use Rattle.cases_tree.proofs.damage.ask_all.Given as goal
 

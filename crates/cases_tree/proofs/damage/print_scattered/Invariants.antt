@@ -1,5 +1,5 @@
 -- `cases_tree::damage::print_scattered` is safe and ends. The invariant: there are most_beats beats. Assumes nothing.
-use Rattle.std.proofs.Common.{◌≡◌, ◌-◌, ◌≤◌, length, rules}
+use Rattle.std.proofs.Common.{◌≡◌, ◌-◌, ◌≤◌, length}
 use Rattle.triangle.specs.Count.{most_beats}
 use Rattle.cases_tree.proofs.damage.print_scattered.Given as goal
 

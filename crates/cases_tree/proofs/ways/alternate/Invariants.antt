@@ -1,5 +1,5 @@
 -- `cases_tree::ways::alternate` is safe and ends. The invariant: the list keeps its length. Assumes nothing.
-use Rattle.std.proofs.Common.{◌≡◌, ◌-◌, ◌≤◌, length, rules}
+use Rattle.std.proofs.Common.{◌≡◌, ◌-◌, ◌≤◌, length}
 use Rattle.cases_tree.proofs.ways.alternate.Given as goal
 
 abbrev pub invariant-loop-i : goal.invariant-loop-i

@@ -1,5 +1,5 @@
 -- `cases_tree::ways::print_each` is safe and ends. The invariant: the lent beats keep their length. Assumes nothing.
-use Rattle.std.proofs.Common.{◌≡◌, ◌-◌, ◌≤◌, length, rules}
+use Rattle.std.proofs.Common.{◌≡◌, ◌-◌, ◌≤◌, length}
 use Rattle.cases_tree.proofs.ways.print_each.Given as goal
 
 abbrev pub invariant-loop-x : goal.invariant-loop-x

@@ -1,5 +1,5 @@
 -- `cases_walk::circles::print_rows` is safe and ends: the row is at most the last. Assumes nothing.
-use Rattle.std.proofs.Common.{◌-◌, ◌≤◌, rules}
+use Rattle.std.proofs.Common.{◌-◌, ◌≤◌}
 use Rattle.cases_walk.proofs.circles.print_rows.Given as goal
 
 abbrev pub invariant-loop-t : goal.invariant-loop-t

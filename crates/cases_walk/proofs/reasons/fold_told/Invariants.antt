@@ -1,5 +1,5 @@
 -- `cases_walk::reasons::fold_told` is safe and ends: the index is at most 5. Assumes nothing.
-use Rattle.std.proofs.Common.{◌-◌, ◌≤◌, rules}
+use Rattle.std.proofs.Common.{◌-◌, ◌≤◌}
 use Rattle.cases_walk.proofs.reasons.fold_told.Given as goal
 
 abbrev pub invariant-loop-index : goal.invariant-loop-index

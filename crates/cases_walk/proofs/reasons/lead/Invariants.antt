@@ -1,6 +1,6 @@
 -- `cases_walk::reasons::lead` is safe and ends. The invariant: the list keeps its length, which is
 -- above the last place. Assumes nothing.
-use Rattle.std.proofs.Common.{◌≡◌, ◌+◌, ◌-◌, ◌<◌, length, rules}
+use Rattle.std.proofs.Common.{◌≡◌, ◌+◌, ◌-◌, ◌<◌, length}
 use Rattle.cases_walk.proofs.reasons.lead.Given as goal
 
 abbrev pub invariant-loop-at : goal.invariant-loop-at

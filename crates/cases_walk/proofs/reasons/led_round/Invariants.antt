@@ -1,5 +1,5 @@
 -- `cases_walk::reasons::led_round` is safe and ends. The invariant: both lists keep their lengths. Assumes nothing.
-use Rattle.std.proofs.Common.{◌≡◌, ◌-◌, ◌≤◌, length, rules}
+use Rattle.std.proofs.Common.{◌≡◌, ◌-◌, ◌≤◌, length}
 use Rattle.cases_walk.proofs.reasons.led_round.Given as goal
 
 abbrev pub invariant-loop : goal.invariant-loop

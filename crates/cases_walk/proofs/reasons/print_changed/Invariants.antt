@@ -1,5 +1,5 @@
 -- `cases_walk::reasons::print_changed` is safe and ends: the index is at most 5. Assumes nothing.
-use Rattle.std.proofs.Common.{◌-◌, ◌≤◌, rules}
+use Rattle.std.proofs.Common.{◌-◌, ◌≤◌}
 use Rattle.cases_walk.proofs.reasons.print_changed.Given as goal
 
 abbrev pub invariant-loop-index : goal.invariant-loop-index

@@ -1,5 +1,5 @@
 -- `cases_walk::reasons::print_row` is safe and ends: the column stays in the row. Assumes nothing.
-use Rattle.std.proofs.Common.{◌-◌, ◌≤◌, rules}
+use Rattle.std.proofs.Common.{◌-◌, ◌≤◌}
 use Rattle.cases_walk.proofs.reasons.print_row.Given as goal
 
 abbrev pub invariant-loop-s : goal.invariant-loop-s

@@ -1,5 +1,5 @@
 -- `cases_walk::reasons::rounds` is safe and ends: t is at most 9. Assumes nothing.
-use Rattle.std.proofs.Common.{◌-◌, ◌≤◌, rules}
+use Rattle.std.proofs.Common.{◌-◌, ◌≤◌}
 use Rattle.cases_walk.proofs.reasons.rounds.Given as goal
 
 abbrev pub invariant-loop-t : goal.invariant-loop-t
