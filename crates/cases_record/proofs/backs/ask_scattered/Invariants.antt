@@ -1,6 +1,6 @@
 -- `cases_record::backs::ask_scattered` is safe and ends. The invariant: the lent beats keep their
 -- length. Assumes nothing.
-use Rattle.std.proofs.Common.{◌≡◌, ◌-◌, ◌≤◌, length, rules}
+use Rattle.std.proofs.Common.{◌≡◌, ◌-◌, ◌≤◌, length}
 use Rattle.cases_record.proofs.backs.ask_scattered.Given as goal
 
 abbrev pub invariant-loop : goal.invariant-loop

@@ -1,5 +1,5 @@
 -- `cases_record::backs::print_scattered` is safe and ends. The invariant: t is not below the first. Assumes nothing.
-use Rattle.std.proofs.Common.{◌-◌, ◌≤◌, rules}
+use Rattle.std.proofs.Common.{◌-◌, ◌≤◌}
 use Rattle.cases_record.proofs.backs.print_scattered.Given as goal
 
 abbrev pub invariant-loop-t : goal.invariant-loop-t

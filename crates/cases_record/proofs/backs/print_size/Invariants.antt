@@ -1,5 +1,5 @@
 -- `cases_record::backs::print_size` is safe and ends. The invariant: s is at most t + 1. Assumes nothing.
-use Rattle.std.proofs.Common.{◌+◌, ◌-◌, ◌≤◌, rules}
+use Rattle.std.proofs.Common.{◌+◌, ◌-◌, ◌≤◌}
 use Rattle.cases_record.proofs.backs.print_size.Given as goal
 
 abbrev pub invariant-loop-s : goal.invariant-loop-s

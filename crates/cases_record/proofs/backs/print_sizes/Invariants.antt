@@ -1,5 +1,5 @@
 -- `cases_record::backs::print_sizes` is safe and ends. The invariant: t is at most the last. Assumes nothing.
-use Rattle.std.proofs.Common.{◌-◌, ◌≤◌, rules}
+use Rattle.std.proofs.Common.{◌-◌, ◌≤◌}
 use Rattle.cases_record.proofs.backs.print_sizes.Given as goal
 
 abbrev pub invariant-loop-t : goal.invariant-loop-t

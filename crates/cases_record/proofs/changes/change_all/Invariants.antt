@@ -1,5 +1,5 @@
 -- `cases_record::changes::change_all` is safe and ends. The invariant: the bytes keep their length. Assumes nothing.
-use Rattle.std.proofs.Common.{◌≡◌, ◌-◌, ◌≤◌, length, rules}
+use Rattle.std.proofs.Common.{◌≡◌, ◌-◌, ◌≤◌, length}
 use Rattle.cases_record.proofs.changes.change_all.Given as goal
 
 abbrev pub invariant-loop-at : goal.invariant-loop-at

@@ -1,5 +1,5 @@
 -- `cases_record::changes::change_byte` is safe and ends. The invariant: the bytes keep their length. Assumes nothing.
-use Rattle.std.proofs.Common.{◌≡◌, ◌-◌, ◌≤◌, length, rules}
+use Rattle.std.proofs.Common.{◌≡◌, ◌-◌, ◌≤◌, length}
 use Rattle.cases_record.proofs.changes.change_byte.Given as goal
 
 abbrev pub invariant-loop-value : goal.invariant-loop-value

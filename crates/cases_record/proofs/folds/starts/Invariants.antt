@@ -1,5 +1,5 @@
 -- `cases_record::folds::starts` is safe and ends. The invariant: i is at most the last. Assumes nothing.
-use Rattle.std.proofs.Common.{◌≡◌, ◌-◌, ◌≤◌, length, rules}
+use Rattle.std.proofs.Common.{◌≡◌, ◌-◌, ◌≤◌, length}
 use Rattle.cases_record.proofs.folds.starts.Given as goal
 
 abbrev pub invariant-loop-i : goal.invariant-loop-i

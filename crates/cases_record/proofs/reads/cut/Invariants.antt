@@ -1,5 +1,5 @@
 -- `cases_record::reads::cut` is safe and ends. The invariant: n is at most the length. Assumes nothing.
-use Rattle.std.proofs.Common.{◌≡◌, ◌-◌, ◌≤◌, length, sym, arith, length-take-le, rules}
+use Rattle.std.proofs.Common.{◌≡◌, ◌-◌, ◌≤◌, length}
 use Rattle.cases_record.proofs.reads.cut.Given as goal
 
 abbrev pub invariant-loop-n : goal.invariant-loop-n

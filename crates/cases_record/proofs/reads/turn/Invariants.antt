@@ -1,5 +1,5 @@
 -- `cases_record::reads::turn` is safe and ends. The invariant: the bytes keep their length. Assumes nothing.
-use Rattle.std.proofs.Common.{◌≡◌, ◌-◌, ◌≤◌, length, rules}
+use Rattle.std.proofs.Common.{◌≡◌, ◌-◌, ◌≤◌, length}
 use Rattle.cases_record.proofs.reads.turn.Given as goal
 
 abbrev pub invariant-loop : goal.invariant-loop

@@ -1,5 +1,5 @@
 -- `cases_record::spelled::spell` is safe and ends. The invariant: the bytes keep their length. Assumes nothing.
-use Rattle.std.proofs.Common.{◌≡◌, ◌-◌, ◌≤◌, length, rules}
+use Rattle.std.proofs.Common.{◌≡◌, ◌-◌, ◌≤◌, length}
 use Rattle.cases_record.proofs.spelled.spell.Given as goal
 
 abbrev pub invariant-loop-i : goal.invariant-loop-i
