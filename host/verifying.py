@@ -125,9 +125,13 @@ def module_of(path):
 
 
 def function_at(text, path, line):
-    """The function, by its module and type, that a line of a source file is in; its text, and its path in the crate."""
+    """The function, by its module and type, that a line of a source file is in; its text, and its path in the crate. A line
+    of attributes or comments is in the function that it stands before."""
     owner, function = None, None
-    for match in NAMED.finditer("\n".join(text.split("\n")[:line])):
+    lines = text.split("\n")
+    while line < len(lines) and lines[line - 1].lstrip().startswith(("#[", "//")):
+        line += 1
+    for match in NAMED.finditer("\n".join(lines[:line])):
         if match["type"] or match["end"]:
             owner = match["type"]
         else:
