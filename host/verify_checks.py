@@ -411,7 +411,7 @@ BREAKS = {
         Break("another length of the longest outline", HEADER, swap("(GV_MAX_TASKS + 1))", "GV_MAX_TASKS)"), ("OUTLINE of the header is 1024",)),
         Break("the length of a text called otherwise", HEADER, swap("uint8_t *text, size_t room);", "uint8_t *text, size_t size);"), ("gv_outline of",)),
         Break("fewer calls inside each other", HEADER, swap("at most 65 calls", "at most 33 calls"), ("nothing holds the 33", "'at most 65 calls")),
-        Break("less stack said", HEADER, swap("up to 8 KB", "up to 6 KB"), ("bytes of stack, and the header says 6000",)),
+        Break("less stack said", HEADER, swap("up to 6 KB", "up to 4 KB"), ("bytes of stack, and the header says 4000",)),
         Break("numbers moved the other way", HEADER, swap("(n + N - 1) % N", "(n + 1) % N"), ("(n + N - 1) % N here",)),
         Break("parameters of the passes exchanged in C", CALLER, swap(f"{BYTES} {ENDED}", f"{ENDED} {BYTES}"), ("list_packing of the C of the",)),
         Break("a length of another width in C", CALLER, swap("uint8_t *text, size_t room", "uint8_t *text, int32_t room"), ("list_explaining of the C",)),
