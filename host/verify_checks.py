@@ -192,6 +192,7 @@ ALL_WELL = "rt: ok; handles allowed: none; must-fail edits: 1 refused; every pro
 GATE = {
     "gate/bin/rt": f"#!/bin/sh\n[ \"$1\" != ci ] || printf '%s\\n' '{ALL_WELL}' '1 passed, 0 failed'\n",
     "gate/crates/ghanveltri/src/lib.rt": "",
+    **{f"gate/crates/{name}/stdin": "" for name in LISTS},
     "gate/host/build": "#!/bin/sh\n",
     "gate/host/tests/one": f"#!/bin/sh\nenv | grep -E '^({'|'.join(OUTSIDE)})=' && exit 1\nexit 0\n",
 }
