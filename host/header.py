@@ -11,7 +11,7 @@ HEADER = ROOT / "include/ghanveltri.h"
 ARCHIVE = ROOT / "target/host/libghanveltri.a"
 FUNCTION = r"(\w+(?: \w+)*[ *]*)\b(gv_\w+) ?\(([^)]*)\) ?"
 NO_REFUSALS = re.compile(r"GV_(VERSION|MAX_|LONGEST_|NO_PLACE$)")
-HOW = "(cd crates/ghanveltri && rt lib) && host/build"
+HOW = "(cd crates/ghanveltri_c && rt lib) && host/build"
 
 
 def output(*command):

@@ -26,7 +26,7 @@ LIMIT = 300  # seconds for a check
 LISTS = ("packing_list", "explain", "outline_list")
 # The programs that list.
 PROGRAMS = tuple(path for name in LISTS for path in (f"target/host/{name}", f"crates/{name}/out/{name}"))
-BUILT = ("crates/ghanveltri/out/libghanveltri.a", "target/host/libghanveltri.*", *PROGRAMS, "target/ci.log")
+BUILT = ("crates/ghanveltri_c/out/libghanveltri_c.a", "target/host/libghanveltri.*", *PROGRAMS, "target/ci.log", "target/whole.log")
 RIGHT = ".right"  # after the name of a program, as it was built
 
 # What is held of the sources.
@@ -191,9 +191,10 @@ OUTSIDE |= {"PYTHONOPTIMIZE": "1"}
 ALL_WELL = "rt: ok; handles allowed: none; must-fail edits: 1 refused; every proof was done in this run"
 GATE = {
     "gate/bin/rt": f"#!/bin/sh\n[ \"$1\" != ci ] || printf '%s\\n' '{ALL_WELL}' '1 passed, 0 failed'\n",
-    "gate/crates/ghanveltri/src/lib.rt": "",
+    "gate/crates/ghanveltri_c/src/lib.rt": "",
     **{f"gate/crates/{name}/stdin": "" for name in LISTS},
     "gate/host/build": "#!/bin/sh\n",
+    "gate/host/try_whole.py": "#!/bin/sh\n",
     "gate/host/tests/one": f"#!/bin/sh\nenv | grep -E '^({'|'.join(OUTSIDE)})=' && exit 1\nexit 0\n",
 }
 
@@ -221,9 +222,11 @@ ABOUT = f"rt: must-fail refusal/{EDIT}.edit: "
 ANOTHER = "./proofs/Answer/value/Answers.antt:1:1: error: `returns`: the two types differ"
 OF_VERDICT = line_of("crates/refusal/src/lib.rt", "why.number()")  # a line of Verdict::refusal
 IN_CODE = f"note: src/lib.rt:{OF_VERDICT}:9: it is not proved that it holds (`returns`)"
-SHAM, LOG = f"crates/refusal/must-fail/{EDIT}.edit", "target/ci.log"
+SHAM, LOG, WHOLE = f"crates/refusal/must-fail/{EDIT}.edit", "target/ci.log", "target/whole.log"
+SEVERAL = "refusal/accepted_calls_misreported"  # an edit of two wrong programs: of `Answer::verdict`, and of `Answer::value`
+BY_ANOTHER = ANOTHER.replace("Answer/value", "Verdict/place")
 HEADER, ARCHIVE, README = "include/ghanveltri.h", "target/host/libghanveltri.a", "README.md"
-EXPORTS, CALLER = "crates/ghanveltri/src/lib.rt", "host/lists.c"  # the passes that are exported, and the C that calls them
+EXPORTS, CALLER = "crates/ghanveltri_c/src/lib.rt", "host/lists.c"  # the passes that are exported, and the C that calls them
 BYTES, ENDED = "const uint8_t *src, size_t length,", "bool ended,"  # what a pass is given, in C
 PAGE, LIST_PAGE, EXAMPLE = "host/man/ghanveltri.3", "host/man/packing_list.1", "host/example.c"
 COMMAND, PROGRAM, EXPLAIN, EXPLAIN_PROGRAM, OUTLINE, OUTLINE_PROGRAM = PROGRAMS
@@ -355,7 +358,7 @@ BREAKS = {
     "edits_are_listed": [
         Break("no log", LOG, gone, (LOG, "rt must-fail", "rt ci")),
         Break("an edit that is not tried", LOG, drop(ABOUT), (EDIT, "nothing, by the log")),
-        Break("a refusal without a fact", LOG, retold(f"{REFUSED}: what"), (EDIT, "nothing that can be read")),
+        Break("a refusal without a fact", LOG, retold(f"{REFUSED}: what"), (EDIT, "as it must be: what")),
         Break("a refusal of another need", LOG, retold(f"{REFUSED}: {ANOTHER}"), (EDIT, "`Answer::value`: `returns`")),
         Break("a refusal in the code", LOG, retold(f"{REFUSED}: {IN_CODE}"), (EDIT, "`Verdict::refusal`: `returns`")),
         Break("one cut short", LOG, retold(f"{REFUSED}: {IN_CODE[:-4]}"), (EDIT, "`Verdict::refusal`: `retur..")),
@@ -363,6 +366,10 @@ BREAKS = {
         Break("a refusal by a limit", LOG, retold(f"{REFUSED} (only by a limit"), (EDIT, "only by a limit")),
         Break("a bad edit", LOG, retold("BAD EDIT: why"), (EDIT, "BAD EDIT")),
         Break("an edit that is proved", LOG, retold("NOT REFUSED: why"), (EDIT, "NOT REFUSED")),
+        Break("no log of the edits tried whole", WHOLE, gone, (WHOLE, "host/try_whole.py")),
+        Break("an edit not tried whole", WHOLE, swap(f"{SEVERAL}\n", "refusal/another\n"), (SEVERAL, "`Answer::value`: `returns-in-Value`, and")),
+        Break("a wrong program of several refused at another fact", WHOLE, swap(f"{SEVERAL}\n", f"{SEVERAL}\n{ANOTHER}\n"), (SEVERAL, "at `Answer::value`: `returns`")),
+        Break("another function refused too", WHOLE, swap(f"{SEVERAL}\n", f"{SEVERAL}\n{BY_ANOTHER}\n"), (SEVERAL, "`Verdict::place`: `returns`")),
         Break("a sham deleted", SHAMS, drop("| P6b "), (SHAMS, "P6b")),
         Break("another count", SHAMS, swap(" wrong programs in ", "0 wrong programs in "), (SHAMS, "it says")),
         Break("another fact", SHAM, swap("`accepted-place`.", "`accepted`."), (EDIT, "`accepted-place`, and it says")),
@@ -422,7 +429,7 @@ BREAKS = {
         Break("parameters of a pass exchanged", EXPORTS, swap("outlining(src: &[u8], ended: bool,", "outlining(ended: bool, src: &[u8],"), ("list_outlining of",)),
         Break("a field of another width", EXPORTS, swap("    pub front: u64,", "    pub front: i32,"), ("struct passed of the C of the lists is",)),
         Break("a layout that is not C's", EXPORTS, swap("#[repr(C)]\n", ""), ("struct passed of the C of the lists is not in the source",)),
-        Break("the archive gone", ARCHIVE, gone, ("(cd crates/ghanveltri && rt lib)",)),
+        Break("the archive gone", ARCHIVE, gone, ("(cd crates/ghanveltri_c && rt lib)",)),
     ],
     "manual_agrees": [
         Break("a function gone from the page", PAGE, drop('.BI "uint64_t gv_version('), ("gv_version",)),
@@ -548,6 +555,7 @@ BREAKS = {
         Break("Python's variables let in", "gate/.ci/run", swap("PYTHON* | ", ""), ("PYTHONOPTIMIZE",), OUTSIDE),
         Break("a crate not proved", "gate/bin/rt", swap("1 passed, 0 failed", "1 passed, 1 failed"), ("1 passed, 1 failed",)),
         Break("a bad edit", "gate/bin/rt", swap("1 refused;", "1 refused, 1 bad;"), ("1 bad;", "edit is bad")),
+        Break("an edit that cannot be tried whole", "gate/host/try_whole.py", becomes("#!/bin/sh\necho broken\nexit 1\n"), ("broken",)),
         Break("a toolchain that fails", "gate/bin/rt", swap("0 failed'", "0 failed'; exit 1"), ("1 passed, 0 failed",)),
         Break("a test that fails", "gate/host/tests/one", becomes("#!/bin/sh\necho broken\nexit 1\n"), ("broken",)),
     ],

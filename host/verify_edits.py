@@ -3,30 +3,35 @@
 several, each a paragraph that changes a function of its own. Its comment says what is wrong, and then, in a line by
 itself, what it is refused at:
 # Refused at `place`: `fact`.
-rt says of each edit what it refused first. Of an edit of one wrong program that is what its comment says; of several it
-is what one of the comments says. An edit that rt did not refuse, or refused only because a proof names what the edit
-took away, or only by a limit of its own, is a fault. The document says how many there are, so that none goes unseen,
-and its table of where each sham is tried has the manual's shams, by their claims.
-  verify_edits.py [LOG]           LOG is what rt ci or rt must-fail printed, target/ci.log if none is named
-  verify_edits.py --list [LOG]    prints what each edit was refused at
-  verify_edits.py --write [LOG]   writes that into the comment of each edit of one wrong program, to be read there
+rt ci says of each edit what it refused first, in target/ci.log. Of an edit of one wrong program that is what its comment
+says. Of several, target/whole.log has all that rt refused (host/try_whole.py), and each comment says the first fact of
+its place. An edit that rt did not refuse, or refused only because a proof names what the edit took away, or only by a
+limit of its own, is a fault. The document says how many there are, so that none goes unseen, and its table of where each
+sham is tried has the manual's shams, by their claims.
+  verify_edits.py            holds the edits to the logs
+  verify_edits.py --list     prints what each edit was refused at, place by place
+  verify_edits.py --write    writes that into the comments, to be read there
 """
 import re
 import sys
+from typing import NamedTuple
 
 from verifying import ROOT, contents, ended, function_at, sure, tables, verdict
 
 SHAMS = "docs/SHAMS.md"
-LOG = "target/ci.log"
+LOG, WHOLE = "target/ci.log", "target/whole.log"
+WHOLE_OF = "whole {}/{}"
 TRIED = ("sham", "tried on", "not tried on, and why")
 FIVE = ["P3", "P5", "P6a", "P6b", "P6c", "P6d"]  # the manual's shams; a fixed number and a fixed form are one of them
-REFUSED = re.compile(r"((?:# .+\n)+)# Refused at (`[^`]+`: `[^`]+`)\.\n(?!#)")
+REFUSED = re.compile(r"((?:# .+\n)+)# Refused at `(?P<place>[^`]+)`: `(?P<fact>[^`]+)`\.\n(?!#)")
 COUNTS = re.compile(r"\b(\d+) wrong programs in (\d+) edits\b")
 CLAIM = re.compile(r"\bP\d[a-z]?\b")
 SAID = re.compile(r"^rt: must-fail (\w+)/([\w.-]+)\.edit: (.*)", re.M)
+TRIED_WHOLE = re.compile(f"^{WHOLE_OF}\\n((?:.*:.*\\n)*)".format(r"(\w+)", r"([\w.-]+)"), re.M)
 BY_A_FACT = "refused, as it must be: "
 IN_A_PROOF = re.compile(r"(?:\./)?(proofs|specs)/(\S+)\.antt:\d+:\d+: error: `([^`]+)`")
 IN_THE_CODE = re.compile(r"note: (?:\./)?(src/\S+\.rt):(\d+):\d+: (?:.*?\(`([^`]+)(`?))?")
+BY_A_NAME = re.compile(r".*(has no field|is not in scope|has no `|was not admitted)")  # a proof names what the edit took away
 OF_A_FUNCTION = ("/Answers", "/Invariants", "/Proof")
 
 
@@ -44,26 +49,46 @@ def changed(crate, edit):
     return texts
 
 
-def fact_of(crate, edit, said):
-    """The first fact that was refused, and what has it: a function by its module and type, or a file of lemmas."""
-    if not said.startswith(BY_A_FACT):
-        return said
-    said = said.removeprefix(BY_A_FACT)
-    if match := IN_A_PROOF.match(said):
+def fact_in(crate, edit, line):
+    """What has a fact that is not proved, by a line of rt, and the fact: a function by its module and type, or a file of
+    lemmas. A fact that rt cut short has two dots at its end; None where the line tells of no fact."""
+    if match := IN_A_PROOF.match(line):
         part, file, name = match.groups()
         of = [file.removesuffix(end).replace("/", "::") for end in OF_A_FUNCTION if file.endswith(end)]
-        return f"`{of[0] if of else f'{part}/{file}'}`: `{name}`"
-    if match := IN_THE_CODE.match(said):
-        path, line, name, whole = match.groups()
-        texts = changed(crate, edit)
-        where = function_at(texts.get(path) or contents(f"crates/{crate}/{path}"), path, int(line))
-        return f"`{where}`: `{name or ''}{whole or '..'}"
-    return f"nothing that can be read: {said}"
+        return None if BY_A_NAME.match(line) else (of[0] if of else f"{part}/{file}", name)
+    if match := IN_THE_CODE.match(line):
+        path, at, name, whole = match.groups()
+        text = changed(crate, edit).get(path) or contents(f"crates/{crate}/{path}")
+        return function_at(text, path, int(at)), f"{name or ''}{'' if whole else '..'}"
+    return None
 
 
-def facts(log):
-    """What each edit was refused at, or what else rt says of it."""
-    return {(crate, edit): fact_of(crate, edit, said) for crate, edit, said in SAID.findall(log)}
+def all_facts(crate, edit, lines):
+    """Each place where an edit was refused, with its first fact; a file of lemmas with all, each a law of its own."""
+    found = {}
+    for place, fact in filter(None, (fact_in(crate, edit, line) for line in lines)):
+        if place not in found or "/" in place:
+            found.setdefault(place, []).append(fact)
+    return found
+
+
+class Tried(NamedTuple):
+    """What rt ci says of an edit, and where it was refused, with the facts: all of them where it was tried whole."""
+
+    said: str = "nothing, by the log"
+    found: dict = {}
+
+
+def all_tried():
+    """What is known of each edit. One that rt ci did not refuse by a fact was refused nowhere."""
+    tried = {}
+    for crate, edit, said in SAID.findall(contents(LOG)):
+        lines = [said.removeprefix(BY_A_FACT)] if said.startswith(BY_A_FACT) else []
+        tried[crate, edit] = Tried(said, all_facts(crate, edit, lines))
+    for crate, edit, lines in TRIED_WHOLE.findall(contents(WHOLE)):
+        if (crate, edit) in tried and tried[crate, edit].found:
+            tried[crate, edit] = Tried("nothing else", all_facts(crate, edit, lines.splitlines()))
+    return tried
 
 
 def is_said(found, said):
@@ -72,17 +97,30 @@ def is_said(found, said):
 
 
 def refused_at(path):
-    """What each wrong program of an edit says that it is refused at, or None where its comment is not as it should be."""
+    """Where each wrong program of an edit says that it is refused, and at what, or None where its comment is not as it
+    should be."""
     said = [REFUSED.match(lines) for lines in contents(path).strip().split("\n\n")]
-    return [match and match.group(2) for match in said]
+    return [match and match.group("place", "fact") for match in said]
 
 
-def faults(edit, said, found):
+def faults(edit, said, tried):
     """What is wrong with an edit, and where rt says another thing."""
+    found = tried.found
     if not all(said):
         yield f"{edit}: a wrong program says what is wrong, and then in a line what it is refused at"
-    elif not any(is_said(found, own) for own in said):
-        yield f"{edit}: refused at {found}, and it says {', '.join(sorted(said))}"
+        return
+    for place, fact in said:
+        if not any(is_said(each, fact) for each in found.get(place, [])):
+            where = {place: found[place]} if place in found else found
+            yield f"{edit}: it says `{place}`: `{fact}`, and is refused at {listed(where) or tried.said}"
+    others = found.keys() - {place for place, _ in said}
+    if others and len(said) > 1:
+        yield f"{edit}: refused in another function too: {listed({place: found[place] for place in sorted(others)})}"
+
+
+def listed(found):
+    """Where an edit was refused, and at what, in a line."""
+    return ", ".join(f"`{place}`: `{fact}`" for place, facts in found.items() for fact in facts)
 
 
 def page_faults(programs, edits):
@@ -97,36 +135,37 @@ def page_faults(programs, edits):
         yield f"{SHAMS}: there are {programs} wrong programs in {edits} edits, and it says {counts}"
 
 
-def write(paths, known):
-    """Writes what was found into the comments of the edits of one wrong program each."""
-    for name, path in paths.items():
-        said, found = refused_at(path), known.get(name, "")
-        if len(said) == 1 and said[0] and found.startswith("`") and not is_said(found, said[0]):
-            text = contents(path).replace(f"\n# Refused at {said[0]}.\n", f"\n# Refused at {found}.\n")
-            (ROOT / path).write_text(text, encoding="utf-8")
-            print(f"{path}: {found}")
+def write(path, said, found):
+    """Writes what was found into the comments of an edit: in a function it says its first fact, and an edit of one wrong
+    program says the one that rt ci has."""
+    text = contents(path)
+    for place, fact in filter(None, said):
+        where, facts = next(iter(found.items()), ("", [])) if len(said) == 1 else (place, found.get(place, []))
+        if len(facts) == 1 and "/" not in where and not (where == place and is_said(facts[0], fact)):
+            text = text.replace(f"\n# Refused at `{place}`: `{fact}`.\n", f"\n# Refused at `{where}`: `{facts[0]}`.\n")
+    if text != contents(path):
+        (ROOT / path).write_text(text, encoding="utf-8")
+        print(f"{path}: written")
 
 
 def main(arguments):
-    mode = arguments.pop(0) if arguments[:1] in (["--list"], ["--write"]) else ""
-    sure(len(arguments) < 2, "verify_edits.py [--list | --write] [LOG]")
-    log = arguments[0] if arguments else LOG
-    how = "which .ci/run leaves: run rt ci or rt must-fail, and keep there what it prints"
-    sure((ROOT / log).is_file(), f"there is no {log}, {how}")
-    files = sorted(ROOT.glob("crates/*/must-fail/*.edit"))
-    paths = {(path.parts[-3], path.stem): str(path.relative_to(ROOT)) for path in files}
-    known = facts(contents(log))
-    if mode == "--write":
-        write(paths, known)
-    if mode == "--list":
-        print(*(f"{crate}/{edit}: {found}" for (crate, edit), found in sorted(known.items())), sep="\n")
+    sure(arguments in ([], ["--list"], ["--write"]), "verify_edits.py [--list | --write]")
+    for log, how in ((LOG, "keep there what rt ci or rt must-fail prints"), (WHOLE, "run host/try_whole.py")):
+        sure((ROOT / log).is_file(), f"there is no {log}, which .ci/run leaves: {how}")
+    paths = {(path.parts[-3], path.stem): str(path.relative_to(ROOT)) for path in sorted(ROOT.glob("crates/*/must-fail/*.edit"))}
+    known = all_tried()
+    if arguments == ["--list"]:
+        print(*(f"{'/'.join(name)}: {listed(tried.found) or tried.said}" for name, tried in sorted(known.items())), sep="\n")
+    if arguments == ["--write"]:
+        for name, path in paths.items():
+            write(path, refused_at(path), known.get(name, Tried()).found)
     edits = {name: refused_at(path) for name, path in paths.items()}
     programs = sum(map(len, edits.values()))
     found = []
     for name, said in edits.items():
-        found += faults("/".join(name), said, known.get(name, "nothing, by the log"))
+        found += faults("/".join(name), said, known.get(name, Tried()))
     found += page_faults(programs, len(edits))
-    return verdict(found, programs, f"wrong programs in {len(edits)} edits, each edit held to the fact that refuses it")
+    return verdict(found, programs, f"wrong programs in {len(edits)} edits, each held to the fact that refuses it")
 
 
 if __name__ == "__main__":

@@ -1,8 +1,8 @@
 #!/usr/bin/env python3
 """Holds include/ghanveltri.h to the library.
 
-The header alone compiles as C99 and as C++11. Each function gv_* that crates/ghanveltri exports, or that the C of the
-library defines, stands in the header with the same parameters, in the same order, under the same names and in the same
+The header alone compiles as C99 and as C++11. Each function gv_* that crates/ghanveltri_c exports, or that the C of
+the library defines, stands in the header with the same parameters, in the same order, under the same names and in the same
 widths, and it stands in the archive; neither has another. The exports without gv_, which the C of the lists calls, are
 declared there in the same way, and the struct that they fill has the same fields, in the same order and widths. A slice
 is a pointer and then its length, which is called room for a text. The constants have the values of the crates. Every refusal has a text of its own. Every number in a comment is computed
@@ -148,7 +148,7 @@ def pairs(text):
 def exported():
     """The C view of each exported function: those of the header, and those that the C of the lists calls."""
     outer, inner = {}, {}
-    for path in sorted(CRATES.glob("ghanveltri/src/**/*.rt")):
+    for path in sorted(CRATES.glob("ghanveltri_c/src/**/*.rt")):
         text = source(path.relative_to(CRATES))
         found = EXPORT.findall(text)
         if len(found) != text.count("no_mangle"):
@@ -162,7 +162,7 @@ def exported():
 
 def shared():
     """The C view of each struct of the crates that has C's layout: its fields, in their order."""
-    text = source("ghanveltri/src/lib.rt")
+    text = source("ghanveltri_c/src/lib.rt")
     structs = {}
     for name, body in SHARED.findall(text):
         fields = pairs(re.sub(r"\bpub ", "", body))

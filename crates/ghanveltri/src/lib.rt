@@ -1,12 +1,11 @@
-// The library for a C host: the manual, "What we ship". Each function `gv_` here is a C function on 64-bit numbers and
-// lent bytes, a slice being its pointer and then its length. A call of one answers one number: the refusal, the place,
-// the surplus and the value of check, count, number and outline are asked for by a call each, and so is each part of
-// an explanation; form, the steps and the runs, on and back, and the way back from an outline answer their refusal, and
-// what a step or a run would change comes from calls that write nothing. Nothing is kept from call to call. The
-// contracts cite the definitions of the crates below, each by an equation; but that of the way back from an outline is
-// a relation, which one answer fits (`back_one` of its crate). The three passes `list_packing`, `list_explaining` and
-// `list_outlining` are for the C of this library, which reads and writes: they tell what a pass over a window did, and
-// their contract is that of a pass. [W3] [F4] [P13] [D1a] [P1]
+// The library as a host calls it: the manual, "What we ship". Each function takes 64-bit numbers and lent bytes and
+// answers one number: the refusal, the place, the surplus and the value of check, count, number and outline are asked
+// for by a call each, and so is each part of an explanation; form, the steps and the runs, on and back, and the way
+// back from an outline answer their refusal, and what a step or a run would change comes from calls that write nothing.
+// The lists go from a reader to a writer. Nothing is kept from call to call. The contracts cite the definitions of the
+// crates below, each by an equation; but that of the way back from an outline is a relation, which one answer fits
+// (`back_one` of its crate), and those of the lists say only which numbers they answer. The crate `ghanveltri_c` gives
+// the functions to C. [W3] [P13] [D1a] [P1]
 #![tactic(auto)]
 
 ghost use Rattle.std.specs.Prelude.{List, ◌≡◌, ℕ, ◌≤◌, get_or};
@@ -22,110 +21,95 @@ ghost use Rattle.reason.specs.Answers.{explained};
 ghost use Rattle.number.specs.Answers.{number_answer};
 ghost use Rattle.outline.specs.Answers.{outline_answer, outline_left};
 ghost use Rattle.outline_back.specs.Back.{Back};
-ghost use Rattle.stream.specs.declared.Pass.{Pass};
-ghost use Rattle.stream.specs.Pass.{Passes};
-ghost use Rattle.lists.specs.declared.Which as of;
-ghost use Rattle.lists.specs.Listed.{line_of, widest};
-ghost use Rattle.ghanveltri.specs.Passed.{told};
 
 use lists::Which;
+use std::io::{Read, Write};
 
 // The version, 2.1.0: major * 1000000 + minor * 1000 + patch.
 const VERSION: u64 = 2001000;
 
 // The version of the library.
-#[unsafe(no_mangle)]
-pub extern "C" fn gv_version() -> u64
+pub fn gv_version() -> u64
     ensures { result ≡ 2001000 }
 {
     VERSION
 }
 
 // Whether the beats are a schedule of t ones and s zeros: 0, or the refusal, 1 to 6.
-#[unsafe(no_mangle)]
 // [W3]
-pub extern "C" fn gv_check_refusal(t: u64, s: u64, beats: &[u8]) -> u64
+pub fn gv_check_refusal(t: u64, s: u64, beats: &[u8]) -> u64
     ensures { result ≡ refusal (checked t s beats.now) }
 {
     schedule::check(t, s, beats).refusal()
 }
 
 // The place that goes with that refusal, and 0 where it names none.
-#[unsafe(no_mangle)]
-// [W3] [F4]
-pub extern "C" fn gv_check_place(t: u64, s: u64, beats: &[u8]) -> u64
+// [W3]
+pub fn gv_check_place(t: u64, s: u64, beats: &[u8]) -> u64
     ensures { result ≡ place (checked t s beats.now) }
 {
     schedule::check(t, s, beats).place()
 }
 
 // How many ones there are beyond t, where that is the refusal; else 0.
-#[unsafe(no_mangle)]
 // [Q5]
-pub extern "C" fn gv_check_surplus(t: u64, s: u64, beats: &[u8]) -> i32
+pub fn gv_check_surplus(t: u64, s: u64, beats: &[u8]) -> i32
     ensures { result ≡ surplus (checked t s beats.now) }
 {
     schedule::check(t, s, beats).surplus()
 }
 
 // Whether counts t, s have forms: 0, or the refusal, 1 or 2.
-#[unsafe(no_mangle)]
 // [W3]
-pub extern "C" fn gv_count_refusal(t: u64, s: u64) -> u64
+pub fn gv_count_refusal(t: u64, s: u64) -> u64
     ensures { result ≡ refusal (verdict (counting t s)) }
 {
     counts::allowed(t, s).refusal()
 }
 
 // The place that goes with that refusal: 0.
-#[unsafe(no_mangle)]
 // [W3]
-pub extern "C" fn gv_count_place(t: u64, s: u64) -> u64
+pub fn gv_count_place(t: u64, s: u64) -> u64
     ensures { result ≡ place (verdict (counting t s)) }
 {
     counts::allowed(t, s).place()
 }
 
 // How many forms there are of counts t, s; 0 after a refusal.
-#[unsafe(no_mangle)]
-// [W3] [F4]
-pub extern "C" fn gv_count(t: u64, s: u64) -> u64
+// [W3]
+pub fn gv_count(t: u64, s: u64) -> u64
     ensures { result ≡ value (counting t s) }
 {
     counts::count(t, s).value()
 }
 
 // Whether the beats have a number: 0, or the refusal, 1 to 6. Asks the check alone.
-#[unsafe(no_mangle)]
 // [W3]
-pub extern "C" fn gv_number_refusal(t: u64, s: u64, beats: &[u8]) -> u64
+pub fn gv_number_refusal(t: u64, s: u64, beats: &[u8]) -> u64
     ensures { result ≡ refusal (verdict (number_answer t s beats.now)) }
 {
     gv_check_refusal(t, s, beats)
 }
 
 // The place that goes with that refusal, and 0 where it names none.
-#[unsafe(no_mangle)]
 // [W3]
-pub extern "C" fn gv_number_place(t: u64, s: u64, beats: &[u8]) -> u64
+pub fn gv_number_place(t: u64, s: u64, beats: &[u8]) -> u64
     ensures { result ≡ place (verdict (number_answer t s beats.now)) }
 {
     gv_check_place(t, s, beats)
 }
 
 // The surplus that goes with that refusal: 0 but for 6.
-#[unsafe(no_mangle)]
 // [Q5]
-pub extern "C" fn gv_number_surplus(t: u64, s: u64, beats: &[u8]) -> i32
+pub fn gv_number_surplus(t: u64, s: u64, beats: &[u8]) -> i32
     ensures { result ≡ surplus (verdict (number_answer t s beats.now)) }
 {
     gv_check_surplus(t, s, beats)
 }
 
 // The number of the lent schedule; 0 after a refusal.
-#[unsafe(no_mangle)]
-// [W3] [F4]
-pub extern "C" fn gv_number(t: u64, s: u64, beats: &[u8]) -> u64
+// [W3]
+pub fn gv_number(t: u64, s: u64, beats: &[u8]) -> u64
     ensures { result ≡ value (number_answer t s beats.now) }
 {
     number::number(t, s, beats).value()
@@ -133,9 +117,8 @@ pub extern "C" fn gv_number(t: u64, s: u64, beats: &[u8]) -> u64
 
 // Writes the form of that number into the t+s lent bytes, and answers 0 or the refusal: 1, 2, 7, then 3.
 // A refusal changes nothing.
-#[unsafe(no_mangle)]
-// [W3] [F4]
-pub extern "C" fn gv_form(t: u64, s: u64, number: u64, out: &mut [u8]) -> u64
+// [W3]
+pub fn gv_form(t: u64, s: u64, number: u64, out: &mut [u8]) -> u64
     ensures value { result ≡ refusal (form_verdict t s number out.old) }
     ensures out_after { out.new ≡ form_left t s number out.old }
 {
@@ -143,9 +126,8 @@ pub extern "C" fn gv_form(t: u64, s: u64, number: u64, out: &mut [u8]) -> u64
 }
 
 // Takes the lent schedule one step on, and answers 0 or the refusal, 1 to 6. A refusal changes nothing.
-#[unsafe(no_mangle)]
-// [W3] [F4]
-pub extern "C" fn gv_next(t: u64, s: u64, beats: &mut [u8]) -> u64
+// [W3]
+pub fn gv_next(t: u64, s: u64, beats: &mut [u8]) -> u64
     ensures value { result ≡ refusal (verdict (next_answer t s beats.old)) }
     ensures beats_after { beats.new ≡ next_left t s beats.old }
 {
@@ -153,9 +135,8 @@ pub extern "C" fn gv_next(t: u64, s: u64, beats: &mut [u8]) -> u64
 }
 
 // The beats that gv_next would change, and 0 where it refuses. Writes nothing.
-#[unsafe(no_mangle)]
 // [W3]
-pub extern "C" fn gv_next_changed(t: u64, s: u64, beats: &[u8]) -> u64
+pub fn gv_next_changed(t: u64, s: u64, beats: &[u8]) -> u64
     ensures { result ≡ value (next_answer t s beats.now) }
 {
     circle::changed(t, s, beats).value()
@@ -163,8 +144,7 @@ pub extern "C" fn gv_next_changed(t: u64, s: u64, beats: &[u8]) -> u64
 
 // Takes the lent schedule that many steps on, and answers 0 or the refusal: 1 to 6, then 13. A refusal
 // changes nothing.
-#[unsafe(no_mangle)]
-pub extern "C" fn gv_run(t: u64, s: u64, beats: &mut [u8], steps: u64) -> u64
+pub fn gv_run(t: u64, s: u64, beats: &mut [u8], steps: u64) -> u64
     ensures value { result ≡ refusal (verdict (run_answer t s beats.old steps)) }
     ensures beats_after { beats.new ≡ run_left t s beats.old steps }
 {
@@ -172,17 +152,15 @@ pub extern "C" fn gv_run(t: u64, s: u64, beats: &mut [u8], steps: u64) -> u64
 }
 
 // The beats that gv_run would change at its steps, added up, and 0 where it refuses. Writes nothing.
-#[unsafe(no_mangle)]
-pub extern "C" fn gv_run_changed(t: u64, s: u64, beats: &[u8], steps: u64) -> u64
+pub fn gv_run_changed(t: u64, s: u64, beats: &[u8], steps: u64) -> u64
     ensures { result ≡ value (run_answer t s beats.now steps) }
 {
     circle::run_changed(t, s, beats, steps).value()
 }
 
 // Takes the lent schedule one step back, and answers 0 or the refusal, 1 to 6. A refusal changes nothing.
-#[unsafe(no_mangle)]
 // [V9]
-pub extern "C" fn gv_previous(t: u64, s: u64, beats: &mut [u8]) -> u64
+pub fn gv_previous(t: u64, s: u64, beats: &mut [u8]) -> u64
     ensures value { result ≡ refusal (verdict (previous_answer t s beats.old)) }
     ensures beats_after { beats.new ≡ previous_left t s beats.old }
 {
@@ -190,9 +168,8 @@ pub extern "C" fn gv_previous(t: u64, s: u64, beats: &mut [u8]) -> u64
 }
 
 // The beats that gv_previous would change, and 0 where it refuses. Writes nothing.
-#[unsafe(no_mangle)]
 // [V9]
-pub extern "C" fn gv_previous_changed(t: u64, s: u64, beats: &[u8]) -> u64
+pub fn gv_previous_changed(t: u64, s: u64, beats: &[u8]) -> u64
     ensures { result ≡ value (previous_answer t s beats.now) }
 {
     circle_back::previous_changed(t, s, beats).value()
@@ -200,9 +177,8 @@ pub extern "C" fn gv_previous_changed(t: u64, s: u64, beats: &[u8]) -> u64
 
 // Takes the lent schedule that many steps back, and answers 0 or the refusal: 1 to 6, then 13. A refusal
 // changes nothing.
-#[unsafe(no_mangle)]
 // [V10]
-pub extern "C" fn gv_run_back(t: u64, s: u64, beats: &mut [u8], steps: u64) -> u64
+pub fn gv_run_back(t: u64, s: u64, beats: &mut [u8], steps: u64) -> u64
     ensures value { result ≡ refusal (verdict (run_back_answer t s beats.old steps)) }
     ensures beats_after { beats.new ≡ run_back_left t s beats.old steps }
 {
@@ -212,36 +188,32 @@ pub extern "C" fn gv_run_back(t: u64, s: u64, beats: &mut [u8], steps: u64) -> u
 }
 
 // The beats that gv_run_back would change at its steps, added up, and 0 where it refuses. Writes nothing.
-#[unsafe(no_mangle)]
 // [V10]
-pub extern "C" fn gv_run_back_changed(t: u64, s: u64, beats: &[u8], steps: u64) -> u64
+pub fn gv_run_back_changed(t: u64, s: u64, beats: &[u8], steps: u64) -> u64
     ensures { result ≡ value (run_back_answer t s beats.now steps) }
 {
     circle_back::run_back_changed(t, s, beats, steps).value()
 }
 
 // The case of the rule that says why gv_next would move a beat, 1 to 4; 0 where it refuses.
-#[unsafe(no_mangle)]
 // [X5]
-pub extern "C" fn gv_explain_case(t: u64, s: u64, beats: &[u8]) -> u64
+pub fn gv_explain_case(t: u64, s: u64, beats: &[u8]) -> u64
     ensures { result ≡ (explained t s beats.now).case }
 {
     reason::explain(t, s, beats).case()
 }
 
 // The place of the found 1; the largest number where the case has none, and where gv_next refuses.
-#[unsafe(no_mangle)]
 // [X5]
-pub extern "C" fn gv_explain_found(t: u64, s: u64, beats: &[u8]) -> u64
+pub fn gv_explain_found(t: u64, s: u64, beats: &[u8]) -> u64
     ensures { result ≡ get_or (explained t s beats.now).found 0 no_place }
 {
     reason::explain(t, s, beats).found()
 }
 
 // The place of the beat that gv_next would move to the second place; the largest number where there is none.
-#[unsafe(no_mangle)]
 // [X5]
-pub extern "C" fn gv_explain_moved(t: u64, s: u64, beats: &[u8]) -> u64
+pub fn gv_explain_moved(t: u64, s: u64, beats: &[u8]) -> u64
     ensures { result ≡ get_or (explained t s beats.now).moved 0 no_place }
 {
     reason::explain(t, s, beats).moved()
@@ -249,36 +221,32 @@ pub extern "C" fn gv_explain_moved(t: u64, s: u64, beats: &[u8]) -> u64
 
 // A place at which gv_next would change a beat, by its index among them, ascending, from 0 on; the largest number
 // where there are not so many.
-#[unsafe(no_mangle)]
 // [X5]
-pub extern "C" fn gv_explain_changed_place(t: u64, s: u64, beats: &[u8], which: u64) -> u64
+pub fn gv_explain_changed_place(t: u64, s: u64, beats: &[u8], which: u64) -> u64
     ensures { result ≡ get_or (explained t s beats.now).changed which no_place }
 {
     reason::explain(t, s, beats).changed(which)
 }
 
 // Whether the beats have an outline that fits into the lent text: 0, or the refusal, 1 to 6, 14, 12. Writes nothing.
-#[unsafe(no_mangle)]
 // [I1]
-pub extern "C" fn gv_outline_refusal(t: u64, s: u64, beats: &[u8], text: &[u8]) -> u64
+pub fn gv_outline_refusal(t: u64, s: u64, beats: &[u8], text: &[u8]) -> u64
     ensures { result ≡ refusal (verdict (outline_answer t s beats.now text.now)) }
 {
     outline::printable(t, s, beats, text.len()).refusal()
 }
 
 // The place that goes with that refusal, and 0 where it names none. Writes nothing.
-#[unsafe(no_mangle)]
 // [I1]
-pub extern "C" fn gv_outline_place(t: u64, s: u64, beats: &[u8], text: &[u8]) -> u64
+pub fn gv_outline_place(t: u64, s: u64, beats: &[u8], text: &[u8]) -> u64
     ensures { result ≡ place (verdict (outline_answer t s beats.now text.now)) }
 {
     outline::printable(t, s, beats, text.len()).place()
 }
 
 // The surplus that goes with that refusal: 0 but for 6. Writes nothing.
-#[unsafe(no_mangle)]
 // [I1]
-pub extern "C" fn gv_outline_surplus(t: u64, s: u64, beats: &[u8], text: &[u8]) -> i32
+pub fn gv_outline_surplus(t: u64, s: u64, beats: &[u8], text: &[u8]) -> i32
     ensures { result ≡ surplus (verdict (outline_answer t s beats.now text.now)) }
 {
     outline::printable(t, s, beats, text.len()).surplus()
@@ -286,9 +254,8 @@ pub extern "C" fn gv_outline_surplus(t: u64, s: u64, beats: &[u8], text: &[u8]) 
 
 // Writes the outline of the lent schedule at the start of the lent text, and answers its bytes; 0 after a refusal,
 // which changes nothing.
-#[unsafe(no_mangle)]
 // [I1]
-pub extern "C" fn gv_outline(t: u64, s: u64, beats: &[u8], text: &mut [u8]) -> u64
+pub fn gv_outline(t: u64, s: u64, beats: &[u8], text: &mut [u8]) -> u64
     ensures value { result ≡ value (outline_answer t s beats.now text.old) }
     ensures text_after { text.new ≡ outline_left t s beats.now text.old }
 {
@@ -297,9 +264,8 @@ pub extern "C" fn gv_outline(t: u64, s: u64, beats: &[u8], text: &mut [u8]) -> u
 
 // Writes the schedule whose outline of n lines has exactly this text into the 2n lent bytes, and answers 0 or the
 // refusal: 1, 3, then 15. A refusal changes nothing.
-#[unsafe(no_mangle)]
 // [I2]
-pub extern "C" fn gv_outline_read(n: u64, text: &[u8], out: &mut [u8]) -> u64
+pub fn gv_outline_read(n: u64, text: &[u8], out: &mut [u8]) -> u64
     ensures { (v : Verdict) × Back n text.now out.old v out.new
         × (result ≡ refusal v) }
 {
@@ -307,62 +273,35 @@ pub extern "C" fn gv_outline_read(n: u64, text: &[u8], out: &mut [u8]) -> u64
 }
 
 // The first wrong, missing or surplus line, where that is the refusal; else 0. Writes nothing.
-#[unsafe(no_mangle)]
 // [I2]
-pub extern "C" fn gv_outline_read_place(n: u64, text: &[u8], out: &[u8]) -> u64
+pub fn gv_outline_read_place(n: u64, text: &[u8], out: &[u8]) -> u64
     ensures { (v : Verdict) × (b : List ℕ) × Back n text.now out.now v b
         × (result ≡ place v) }
 {
     outline_back::readable(n, text, out).place()
 }
 
-// What a pass over a window did: the bytes that it listed, the bytes of their lines, and what it stopped at: 0 at a
-// record where there was no room for its lines, 1 at the start of one that waits for more input, 2 at the end.
-#[repr(C)]
-#[derive(Clone, Copy)]
-pub struct Passed {
-    pub consumed: u64,
-    pub bytes: u64,
-    pub front: u64,
+// Lists the order records of a reader to a writer as the packing list does, to the end of the input or after a 9: 0
+// where all was listed, 1 where reading failed, 2 where writing failed.
+// [E18]
+pub fn gv_packing_list<R: Read, W: Write>(from: &mut R, to: &mut W) -> u64
+    ensures { result ≤ 2 }
+{
+    lists::list_all(Which::Packing, from, to)
 }
 
-// Lists the records that a window starts with, and tells what the pass did.
-fn list(which: Which, src: &[u8], ended: bool, text: &mut [u8], passed: &mut Passed)
-    ensures { (p : Pass) × Passes (line_of which) widest ended src.now text.old p text.new
-        × (passed.new ≡ told p) }
+// The same of the list that explains each record.
+// [X10]
+pub fn gv_explain_list<R: Read, W: Write>(from: &mut R, to: &mut W) -> u64
+    ensures { result ≤ 2 }
 {
-    let pass = lists::list_part(which, src, ended, text);
-    *passed = Passed {
-        consumed: pass.consumed as u64,
-        bytes: pass.bytes as u64,
-        front: pass.front.number(),
-    };
+    lists::list_all(Which::Explaining, from, to)
 }
 
-// Lists the order records that a window starts with as the packing list does, while their lines have room. The C of
-// this library that reads and writes, host/lists.c, makes gv_packing_list of it. [E18]
-#[unsafe(no_mangle)]
-pub extern "C" fn list_packing(src: &[u8], ended: bool, text: &mut [u8], passed: &mut Passed)
-    ensures { (p : Pass) × Passes (line_of of.Which.Packing) widest ended src.now text.old p text.new
-        × (passed.new ≡ told p) }
+// The same of the list of outlines.
+// [I3]
+pub fn gv_outline_list<R: Read, W: Write>(from: &mut R, to: &mut W) -> u64
+    ensures { result ≤ 2 }
 {
-    list(Which::Packing, src, ended, text, passed)
-}
-
-// The same of the list that explains each record. [X10]
-#[unsafe(no_mangle)]
-pub extern "C" fn list_explaining(src: &[u8], ended: bool, text: &mut [u8], passed: &mut Passed)
-    ensures { (p : Pass) × Passes (line_of of.Which.Explaining) widest ended src.now text.old p text.new
-        × (passed.new ≡ told p) }
-{
-    list(Which::Explaining, src, ended, text, passed)
-}
-
-// The same of the list of outlines. [I3]
-#[unsafe(no_mangle)]
-pub extern "C" fn list_outlining(src: &[u8], ended: bool, text: &mut [u8], passed: &mut Passed)
-    ensures { (p : Pass) × Passes (line_of of.Which.Outlining) widest ended src.now text.old p text.new
-        × (passed.new ≡ told p) }
-{
-    list(Which::Outlining, src, ended, text, passed)
+    lists::list_all(Which::Outlining, from, to)
 }

@@ -2,8 +2,8 @@
 use mathlib.Core.Path.{◌≡◌, refl}
 use Rattle.stream.specs.declared.Front.{Front}
 use Rattle.stream.specs.declared.Pass.{Pass}
-use Rattle.ghanveltri.specs.declared.Passed.{Passed}
-use Rattle.ghanveltri.specs.Passed.{told}
+use Rattle.ghanveltri_c.specs.declared.Passed.{Passed}
+use Rattle.ghanveltri_c.specs.Passed.{told}
 
 -- a pass to the end of the list, and one that waits for more input
 abbrev over : Pass
