@@ -1,8 +1,8 @@
 /*
  * The lists of the library from one descriptor to another: what a window of the input says is listed by the proved
- * functions below, of crates/ghanveltri_c, and this reads, writes and keeps the window. It is C because a static
- * library of the proved language has no way to a descriptor by its number. The functions of these names of
- * crates/ghanveltri do the same over a reader and a writer. [E18] [X10] [I3]
+ * functions below, of crates/ghanveltri_c, and this reads, writes and keeps the window. It is C because
+ * nothing that a static library of the proved language may call reads or writes a descriptor and tells what failed.
+ * The functions of these names of crates/ghanveltri do the same over a reader and a writer. [E18] [X10] [I3]
  */
 #define _POSIX_C_SOURCE 200809L
 #include <errno.h>

@@ -3,7 +3,8 @@
 says all of them. Each is tried in a copy of the tree, over what lies in out/, as many side by side as there are processors. Leaves target/whole.log, which
 host/verify_edits.py reads: of each edit a line `whole CRATE/EDIT`, and then each line in which rt says what is not proved.
 
-  try_whole.py [CRATE..]    the edits of these crates, or of all
+  try_whole.py            all of them
+  try_whole.py CRATE..    those of these crates; the log then has no others
 """
 import concurrent.futures
 import os
@@ -17,6 +18,8 @@ import tempfile
 from verify_edits import WHOLE, WHOLE_OF, changed, refused_at
 from verifying import ROOT, contents, ended, sure
 
+MOST = 4  # copies of the tree: each takes near 1 GB of disk, and its check up to 2 GB of memory
+LIMIT = 1200  # seconds for a check
 FACT = re.compile(r"^(?:note: )?\S+:\d+:\d+: .*", re.M)
 REFUSED = "logic=not-proved"
 
@@ -41,7 +44,7 @@ def tried(crate, edit, tree):
     for path, text in texts.items():
         with open(f"{folder}/{path}", "w", encoding="utf-8") as file:
             file.write(text)
-    ran = subprocess.run(["rt", "check", "--jobs", "1"], cwd=folder, capture_output=True, text=True, errors="replace")
+    ran = subprocess.run(["rt", "check", "--jobs", "1"], cwd=folder, capture_output=True, text=True, errors="replace", timeout=LIMIT)
     for path in texts:
         shutil.copy(ROOT / "crates" / crate / path, f"{folder}/{path}")
     said = ran.stdout + ran.stderr
@@ -62,9 +65,10 @@ def all_tried(edits, workers):
 
     def of(edit):
         tree = trees.get()
-        log = tried(*edit, tree)
-        trees.put(tree)
-        return log
+        try:
+            return tried(*edit, tree)
+        finally:
+            trees.put(tree)
 
     with tempfile.TemporaryDirectory(prefix="whole-") as work, concurrent.futures.ThreadPoolExecutor(workers) as pool:
         for number in range(workers):
@@ -74,7 +78,7 @@ def all_tried(edits, workers):
 
 def main(crates):
     edits = several(crates)
-    logs = all_tried(edits, min(len(edits), os.cpu_count()))
+    logs = all_tried(edits, min(len(edits), os.cpu_count(), MOST))
     (ROOT / WHOLE).parent.mkdir(exist_ok=True)
     (ROOT / WHOLE).write_text("".join(logs), encoding="utf-8")
     print(f"{len(logs)} edits of several wrong programs tried whole")

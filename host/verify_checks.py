@@ -225,6 +225,7 @@ IN_CODE = f"note: src/lib.rt:{OF_VERDICT}:9: it is not proved that it holds (`re
 SHAM, LOG, WHOLE = f"crates/refusal/must-fail/{EDIT}.edit", "target/ci.log", "target/whole.log"
 SEVERAL = "refusal/accepted_calls_misreported"  # an edit of two wrong programs: of `Answer::verdict`, and of `Answer::value`
 BY_ANOTHER = ANOTHER.replace("Answer/value", "Verdict/place")
+FOR_A_NAME, BY_A_LIMIT = (ANOTHER.replace("the two types differ", what) for what in ("it has no field `value`", "antt ran out of stack"))
 HEADER, ARCHIVE, README = "include/ghanveltri.h", "target/host/libghanveltri.a", "README.md"
 EXPORTS, CALLER = "crates/ghanveltri_c/src/lib.rt", "host/lists.c"  # the passes that are exported, and the C that calls them
 BYTES, ENDED = "const uint8_t *src, size_t length,", "bool ended,"  # what a pass is given, in C
@@ -370,6 +371,8 @@ BREAKS = {
         Break("an edit not tried whole", WHOLE, swap(f"{SEVERAL}\n", "refusal/another\n"), (SEVERAL, "`Answer::value`: `returns-in-Value`, and")),
         Break("a wrong program of several refused at another fact", WHOLE, swap(f"{SEVERAL}\n", f"{SEVERAL}\n{ANOTHER}\n"), (SEVERAL, "at `Answer::value`: `returns`")),
         Break("another function refused too", WHOLE, swap(f"{SEVERAL}\n", f"{SEVERAL}\n{BY_ANOTHER}\n"), (SEVERAL, "`Verdict::place`: `returns`")),
+        Break("one of several refused for a name", WHOLE, swap(f"{SEVERAL}\n", f"{SEVERAL}\n{FOR_A_NAME}\n"), (SEVERAL, "a name that the edit took")),
+        Break("one of several refused by a limit", WHOLE, swap(f"{SEVERAL}\n", f"{SEVERAL}\n{BY_A_LIMIT}\n"), (SEVERAL, "a limit of the prover")),
         Break("a sham deleted", SHAMS, drop("| P6b "), (SHAMS, "P6b")),
         Break("another count", SHAMS, swap(" wrong programs in ", "0 wrong programs in "), (SHAMS, "it says")),
         Break("another fact", SHAM, swap("`accepted-place`.", "`accepted`."), (EDIT, "`accepted-place`, and it says")),

@@ -30,8 +30,11 @@ SAID = re.compile(r"^rt: must-fail (\w+)/([\w.-]+)\.edit: (.*)", re.M)
 TRIED_WHOLE = re.compile(f"^{WHOLE_OF}\\n((?:.*:.*\\n)*)".format(r"(\w+)", r"([\w.-]+)"), re.M)
 BY_A_FACT = "refused, as it must be: "
 IN_A_PROOF = re.compile(r"(?:\./)?(proofs|specs)/(\S+)\.antt:\d+:\d+: error: `([^`]+)`")
-IN_THE_CODE = re.compile(r"note: (?:\./)?(src/\S+\.rt):(\d+):\d+: (?:.*?\(`([^`]+)(`?))?")
-BY_A_NAME = re.compile(r".*(has no field|is not in scope|has no `|was not admitted)")  # a proof names what the edit took away
+IN_THE_CODE = re.compile(r"note: (?:\./)?(src/\S+\.rt):(\d+):\d+: .*?\(`([^`]+)(`?)")
+NO_FACT = {  # what an error may say that shows nothing of the contract
+    "a name that the edit took away": re.compile(r".*(has no field|is not in scope|has no `|was not admitted)"),
+    "a limit of the prover": re.compile(r".*(antt ran out of|outgrew the memory limit|stopped at the step limit)"),
+}
 OF_A_FUNCTION = ("/Answers", "/Invariants", "/Proof")
 
 
@@ -55,20 +58,21 @@ def fact_in(crate, edit, line):
     if match := IN_A_PROOF.match(line):
         part, file, name = match.groups()
         of = [file.removesuffix(end).replace("/", "::") for end in OF_A_FUNCTION if file.endswith(end)]
-        return None if BY_A_NAME.match(line) else (of[0] if of else f"{part}/{file}", name)
+        none = [what for what, pattern in NO_FACT.items() if pattern.match(line)]
+        return of[0] if of else f"{part}/{file}", none[0] if none else name
     if match := IN_THE_CODE.match(line):
         path, at, name, whole = match.groups()
         text = changed(crate, edit).get(path) or contents(f"crates/{crate}/{path}")
-        return function_at(text, path, int(at)), f"{name or ''}{'' if whole else '..'}"
+        return function_at(text, path, int(at)), f"{name}{'' if whole else '..'}"
     return None
 
 
 def all_facts(crate, edit, lines):
-    """Each place where an edit was refused, with its first fact; a file of lemmas with all, each a law of its own."""
-    found = {}
+    """Where an edit was refused, and at what: of a function its first fact, and of a file of lemmas each, a law of its own."""
+    found = []
     for place, fact in filter(None, (fact_in(crate, edit, line) for line in lines)):
-        if place not in found or "/" in place:
-            found.setdefault(place, []).append(fact)
+        if "/" in place or place not in dict(found):
+            found.append((place, fact))
     return found
 
 
@@ -76,7 +80,7 @@ class Tried(NamedTuple):
     """What rt ci says of an edit, and where it was refused, with the facts: all of them where it was tried whole."""
 
     said: str = "nothing, by the log"
-    found: dict = {}
+    found: tuple = ()
 
 
 def all_tried():
@@ -104,23 +108,25 @@ def refused_at(path):
 
 
 def faults(edit, said, tried):
-    """What is wrong with an edit, and where rt says another thing."""
-    found = tried.found
+    """What is wrong with an edit, and where rt says another thing. What was refused is what is said, each once, and no more."""
     if not all(said):
         yield f"{edit}: a wrong program says what is wrong, and then in a line what it is refused at"
         return
+    left = list(tried.found)
     for place, fact in said:
-        if not any(is_said(each, fact) for each in found.get(place, [])):
-            where = {place: found[place]} if place in found else found
+        held = next((each for each in left if each[0] == place and is_said(each[1], fact)), None)
+        if held:
+            left.remove(held)
+        else:
+            where = [each for each in left if each[0] == place] or left
             yield f"{edit}: it says `{place}`: `{fact}`, and is refused at {listed(where) or tried.said}"
-    others = found.keys() - {place for place, _ in said}
-    if others and len(said) > 1:
-        yield f"{edit}: refused in another function too: {listed({place: found[place] for place in sorted(others)})}"
+    if left and len(said) > 1:
+        yield f"{edit}: refused elsewhere too, at {listed(left)}"
 
 
 def listed(found):
     """Where an edit was refused, and at what, in a line."""
-    return ", ".join(f"`{place}`: `{fact}`" for place, facts in found.items() for fact in facts)
+    return ", ".join(f"`{place}`: `{fact}`" for place, fact in found)
 
 
 def page_faults(programs, edits):
@@ -136,13 +142,12 @@ def page_faults(programs, edits):
 
 
 def write(path, said, found):
-    """Writes what was found into the comments of an edit: in a function it says its first fact, and an edit of one wrong
-    program says the one that rt ci has."""
+    """Writes what was found into the comments of an edit: each function's fact, or of one wrong program what rt ci says."""
     text = contents(path)
     for place, fact in filter(None, said):
-        where, facts = next(iter(found.items()), ("", [])) if len(said) == 1 else (place, found.get(place, []))
-        if len(facts) == 1 and "/" not in where and not (where == place and is_said(facts[0], fact)):
-            text = text.replace(f"\n# Refused at `{place}`: `{fact}`.\n", f"\n# Refused at `{where}`: `{facts[0]}`.\n")
+        now = [each for each in found if each[0] == place or len(said) == 1]
+        if len(now) == 1 and not (now[0][0] == place and is_said(now[0][1], fact)):
+            text = text.replace(f"\n# Refused at `{place}`: `{fact}`.\n", f"\n# Refused at {listed(now)}.\n")
     if text != contents(path):
         (ROOT / path).write_text(text, encoding="utf-8")
         print(f"{path}: written")

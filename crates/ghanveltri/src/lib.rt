@@ -5,7 +5,7 @@
 // The lists go from a reader to a writer. Nothing is kept from call to call. The contracts cite the definitions of the
 // crates below, each by an equation; but that of the way back from an outline is a relation, which one answer fits
 // (`back_one` of its crate), and those of the lists say only which numbers they answer. The crate `ghanveltri_c` gives
-// the functions to C. [W3] [P13] [D1a] [P1]
+// the functions to C, all but the lists. [W3] [P13] [D1a] [P1]
 #![tactic(auto)]
 
 ghost use Rattle.std.specs.Prelude.{List, ◌≡◌, ℕ, ◌≤◌, get_or};

@@ -1,9 +1,9 @@
 // The library for C: a thin static library over `ghanveltri`. Each function `gv_` is a C function on 64-bit numbers and
 // lent bytes, a slice being its pointer and then its length. It calls the function of its name there, which says what
-// it does, and states its clauses again. The lists from one descriptor to another are C, host/lists.c, since a static
-// library has no way to a descriptor by its number. Their passes are here, `list_packing`, `list_explaining` and
-// `list_outlining`: each tells what a pass over a window did, and its contract is that of a pass.
-// [W3] [P13] [D1a] [P1]
+// it does, and states its clauses again. The lists from one descriptor to another are C, host/lists.c, since nothing
+// that a static library may call reads or writes a descriptor and tells what failed. Their passes are here,
+// `list_packing`, `list_explaining` and `list_outlining`: each tells what a pass over a window did, and its contract is
+// that of a pass. [W3] [P13] [D1a] [P1]
 #![tactic(auto)]
 
 ghost use Rattle.std.specs.Prelude.{List, ◌≡◌, ℕ, get_or};
