@@ -368,7 +368,7 @@ BREAKS = {
         Break("a bad edit", LOG, retold("BAD EDIT: why"), (EDIT, "BAD EDIT")),
         Break("an edit that is proved", LOG, retold("NOT REFUSED: why"), (EDIT, "NOT REFUSED")),
         Break("no log of the edits tried whole", WHOLE, gone, (WHOLE, "host/try_whole.py")),
-        Break("an edit not tried whole", WHOLE, swap(f"{SEVERAL}\n", "refusal/another\n"), (SEVERAL, "`Answer::value`: `returns-in-Value`, and")),
+        Break("an edit not tried whole", WHOLE, swap(f"{SEVERAL}\n", "refusal/another\n"), (SEVERAL, "`Answer::verdict`: `returns-in-Value`, and")),
         Break("a wrong program of several refused at another fact", WHOLE, swap(f"{SEVERAL}\n", f"{SEVERAL}\n{ANOTHER}\n"), (SEVERAL, "at `Answer::value`: `returns`")),
         Break("another function refused too", WHOLE, swap(f"{SEVERAL}\n", f"{SEVERAL}\n{BY_ANOTHER}\n"), (SEVERAL, "`Verdict::place`: `returns`")),
         Break("one of several refused for a name", WHOLE, swap(f"{SEVERAL}\n", f"{SEVERAL}\n{FOR_A_NAME}\n"), (SEVERAL, "a name that the edit took")),
