@@ -375,7 +375,7 @@ BREAKS = {
         Break("one of several refused by a limit", WHOLE, swap(f"{SEVERAL}\n", f"{SEVERAL}\n{BY_A_LIMIT}\n"), (SEVERAL, "a limit of the prover")),
         Break("a sham deleted", SHAMS, drop("| P6b "), (SHAMS, "P6b")),
         Break("another count", SHAMS, swap(" wrong programs in ", "0 wrong programs in "), (SHAMS, "it says")),
-        Break("another fact", SHAM, swap("`accepted-place`.", "`accepted`."), (EDIT, "`accepted-place`, and it says")),
+        Break("another fact", SHAM, swap("`accepted-place`.", "`accepted`."), (EDIT, "refused at `proofs/Cases`: `accepted-place`")),
         Break("an edit that says no fact", SHAM, drop("# Refused at"), (f"{EDIT}: a wrong program says",)),
         Break("an edit that says nothing else", SHAM, drop("# An accepted call"), (f"{EDIT}: a wrong program says",)),
         Break("an edit gone", SHAM, gone, (SHAMS, "it says")),
