@@ -1,7 +1,8 @@
 #!/usr/bin/env python3
-"""Tries whole each must-fail edit of several wrong programs. rt ci says of an edit the first fact that refuses it; rt check of a crate that is edited so
-says all of them. Each is tried in a copy of the tree, over what lies in out/, as many side by side as there are processors. Leaves target/whole.log, which
-host/verify_edits.py reads: of each edit a line `whole CRATE/EDIT`, and then each line in which rt says what is not proved.
+"""Tries whole each must-fail edit of several wrong programs. rt ci says of an edit the first fact that refuses it; rt
+check of a crate that is edited so says all of them. Each is tried in a copy of the tree, over what lies in out/, some
+side by side. Leaves target/whole.log, which host/verify_edits.py reads: of each edit a line `whole CRATE/EDIT`, and then
+each line in which rt says what is not proved. Where an edit cannot be tried, or is proved, it says so and leaves no log.
 
   try_whole.py            all of them
   try_whole.py CRATE..    those of these crates; the log then has no others
@@ -25,8 +26,8 @@ REFUSED = "logic=not-proved"
 
 
 def several(crates):
-    """The edits of several wrong programs, each by its crate and name: of crates that stand on others first, so that no crate that was edited is built
-    for another."""
+    """The edits of several wrong programs, each by its crate and name: of crates that stand on others first, so that no
+    crate that was edited is built for another."""
     listed = re.findall(r"^(\w+)\b.*:", contents("crates.txt"), re.M)
     paths = [path.relative_to(ROOT) for path in sorted(ROOT.glob("crates/*/must-fail/*.edit"))]
     edits = [(path.parts[1], path.stem) for path in paths if len(refused_at(path)) > 1]
@@ -77,6 +78,7 @@ def all_tried(edits, workers):
 
 
 def main(crates):
+    (ROOT / WHOLE).unlink(missing_ok=True)
     edits = several(crates)
     logs = all_tried(edits, min(len(edits), os.cpu_count(), MOST))
     (ROOT / WHOLE).parent.mkdir(exist_ok=True)
