@@ -219,12 +219,12 @@ TREE, TREES, LINES = "crates/tree/specs/Tree.antt", "crates/tree/proofs/Cases.an
 HEADINGS = "crates/outline/specs/Outline.antt"
 EDIT, REFUSED = "accepted_has_a_place", "refused, as it must be"  # of the crate `refusal`
 ABOUT = f"rt: must-fail refusal/{EDIT}.edit: "
-ANOTHER = "./proofs/Answer/value/Answers.antt:1:1: error: `returns`: the two types differ"
-OF_VERDICT = line_of("crates/refusal/src/lib.rt", "why.number()")  # a line of Verdict::refusal
+ANOTHER = "./proofs/value/Answers.antt:1:1: error: `returns`: the two types differ"
+OF_VERDICT = line_of("crates/refusal/src/lib.rt", "why.number()")  # a line of Result::refusal
 IN_CODE = f"note: src/lib.rt:{OF_VERDICT}:9: it is not proved that it holds (`returns`)"
 SHAM, LOG, WHOLE = f"crates/refusal/must-fail/{EDIT}.edit", "target/ci.log", "target/whole.log"
-SEVERAL = "refusal/accepted_calls_misreported"  # an edit of two wrong programs: of `Answer::verdict`, and of `Answer::value`
-BY_ANOTHER = ANOTHER.replace("Answer/value", "Verdict/place")
+SEVERAL = "refusal/accepted_calls_misreported"  # an edit of two wrong programs: of `Result::refusal`, and of `value`
+BY_ANOTHER = ANOTHER.replace("proofs/value", "proofs/Refusal/place")
 FOR_A_NAME, BY_A_LIMIT = (ANOTHER.replace("the two types differ", what) for what in ("it has no field `value`", "antt ran out of stack"))
 HEADER, ARCHIVE, README = "include/ghanveltri.h", "target/host/libghanveltri.a", "README.md"
 EXPORTS, CALLER = "crates/ghanveltri_c/src/lib.rt", "host/lists.c"  # the passes that are exported, and the C that calls them
@@ -234,7 +234,7 @@ COMMAND, PROGRAM, EXPLAIN, EXPLAIN_PROGRAM, OUTLINE, OUTLINE_PROGRAM = PROGRAMS
 EXPLAIN_PAGE, EXPLAINING, OUTLINE_PAGE = "host/man/explain.1", "host/explaining.py", "host/man/outline_list.1"
 CHANGES, BEFORE = "changes(beats, own.after)", "form_of(t, s, (number_of(t, s, beats) - 1) % forms(t, s))"  # of the oracle; and the form before
 PRINTED, FROM_RIGHT = "in numbers_of(beats)", "in numbers_of([1 - beat for beat in beats[::-1]])"  # of the oracle
-LOOK, LOOKUP, STREAM = "| `lookup` | `look` |", "crates/lookup/src/lib.rt", "crates/stream/src/lib.rt"
+LOOK, LOOKUP, STREAM = "| `lookup` | `Table::look` |", "crates/lookup/src/lib.rt", "crates/stream/src/lib.rt"
 GROUND, WALK, ORACLE, PACKING = "crates/cases_ground/stdout", "crates/cases_walk/stdout", "host/oracle.py", "host/packing.py"
 NUMBER, RECORD, OUTLINES = (f"crates/cases_{of}/stdout" for of in ("number", "record", "outline"))
 VERIFY_CASES, INDEPENDENT, STDIO = "host/verify_cases.py", "host/independent.c", "bench/packing_stdio.c"
@@ -344,33 +344,33 @@ BREAKS = {
         Break("a long line", BOUNDED, swap("unfoldable pub every :", f"unfoldable pub every :{' ' * 100}"), (f"{BOUNDED}:", "characters long")),
     ],
     "requires_are_listed": [
-        Break("a row deleted", REQUIRES, drop(LOOK), ("look of lookup has a `requires` and no row",)),
-        Break("a row of no such function", REQUIRES, swap(LOOK, "| `lookup` | `luok` |"), ("no function `luok`", "look of lookup")),
+        Break("a row deleted", REQUIRES, drop(LOOK), ("Table::look of lookup has a `requires` and no row",)),
+        Break("a row of no such function", REQUIRES, swap(LOOK, "| `lookup` | `luok` |"), ("no function `luok`", "Table::look of lookup")),
         Break("a row twice", REQUIRES, swap("`table::in_low`", "`table::inside`"), ("table::inside of triangle stands twice",)),
-        Break("a row in another form", REQUIRES, swap(LOOK, "| lookup | `look` |"), (REQUIRES, "a row is `crate`")),
-        Break("a row without a column", REQUIRES, swap(f"{LOOK} public |", LOOK), ("5 columns", "`look`")),
+        Break("a row in another form", REQUIRES, swap(LOOK, "| lookup | `Table::look` |"), (REQUIRES, "a row is `crate`")),
+        Break("a row without a column", REQUIRES, swap(f"{LOOK} public |", LOOK), ("5 columns", "`Table::look`")),
         Break("a row that does not say why", REQUIRES, swap("| it copies them |", "| |"), ("none is empty",)),
         Break("a public one said to be private", REQUIRES, swap(f"{LOOK} public |", f"{LOOK} private |"), ("look` of `lookup` is public",)),
         Break("a private one said to be public", REQUIRES, swap("`reads::kind` | private", "`reads::kind` | public"), ("is private",)),
         Break("one that is no longer lent on", STREAM, drop("pub use moving::exchange;"), ("`moving::exchange` of `stream` is private",)),
-        Break("a `requires` gone", LOOKUP, drop("    requires {"), ("`lookup` has no function `look` with a `requires`",)),
+        Break("a `requires` gone", LOOKUP, drop("        requires {", 2), ("`lookup` has no function `Table::look` with a `requires`",)),
         Break("a new `requires`", STREAM, swap("Front\n    ensures", "Front\n    requires { none }\n    ensures"), ("at_front of stream",)),
     ],
     "edits_are_listed": [
         Break("no log", LOG, gone, (LOG, "rt must-fail", "rt ci")),
         Break("an edit that is not tried", LOG, drop(ABOUT), (EDIT, "nothing, by the log")),
         Break("a refusal without a fact", LOG, retold(f"{REFUSED}: what"), (EDIT, "as it must be: what")),
-        Break("a refusal of another need", LOG, retold(f"{REFUSED}: {ANOTHER}"), (EDIT, "`Answer::value`: `returns`")),
-        Break("a refusal in the code", LOG, retold(f"{REFUSED}: {IN_CODE}"), (EDIT, "`Verdict::refusal`: `returns`")),
-        Break("one cut short", LOG, retold(f"{REFUSED}: {IN_CODE[:-4]}"), (EDIT, "`Verdict::refusal`: `retur..")),
+        Break("a refusal of another need", LOG, retold(f"{REFUSED}: {ANOTHER}"), (EDIT, "`value`: `returns`")),
+        Break("a refusal in the code", LOG, retold(f"{REFUSED}: {IN_CODE}"), (EDIT, "`Result::refusal`: `returns`")),
+        Break("one cut short", LOG, retold(f"{REFUSED}: {IN_CODE[:-4]}"), (EDIT, "`Result::refusal`: `retur..")),
         Break("a refusal for names alone", LOG, retold(f"{REFUSED} (only because"), (EDIT, "only because")),
         Break("a refusal by a limit", LOG, retold(f"{REFUSED} (only by a limit"), (EDIT, "only by a limit")),
         Break("a bad edit", LOG, retold("BAD EDIT: why"), (EDIT, "BAD EDIT")),
         Break("an edit that is proved", LOG, retold("NOT REFUSED: why"), (EDIT, "NOT REFUSED")),
         Break("no log of the edits tried whole", WHOLE, gone, (WHOLE, "host/try_whole.py")),
-        Break("an edit not tried whole", WHOLE, swap(f"{SEVERAL}\n", "refusal/another\n"), (SEVERAL, "`Answer::verdict`: `returns-in-Value`, and")),
-        Break("a wrong program of several refused at another fact", WHOLE, swap(f"{SEVERAL}\n", f"{SEVERAL}\n{ANOTHER}\n"), (SEVERAL, "at `Answer::value`: `returns`")),
-        Break("another function refused too", WHOLE, swap(f"{SEVERAL}\n", f"{SEVERAL}\n{BY_ANOTHER}\n"), (SEVERAL, "`Verdict::place`: `returns`")),
+        Break("an edit not tried whole", WHOLE, swap(f"{SEVERAL}\n", "refusal/another\n"), (SEVERAL, "`Result::refusal`: `returns-then-is_ok`, and")),
+        Break("a wrong program of several refused at another fact", WHOLE, swap(f"{SEVERAL}\n", f"{SEVERAL}\n{ANOTHER}\n"), (SEVERAL, "at `value`: `returns`")),
+        Break("another function refused too", WHOLE, swap(f"{SEVERAL}\n", f"{SEVERAL}\n{BY_ANOTHER}\n"), (SEVERAL, "`Refusal::place`: `returns`")),
         Break("one of several refused for a name", WHOLE, swap(f"{SEVERAL}\n", f"{SEVERAL}\n{FOR_A_NAME}\n"), (SEVERAL, "a name that the edit took")),
         Break("one of several refused by a limit", WHOLE, swap(f"{SEVERAL}\n", f"{SEVERAL}\n{BY_A_LIMIT}\n"), (SEVERAL, "a limit of the prover")),
         Break("a sham deleted", SHAMS, drop("| P6b "), (SHAMS, "P6b")),

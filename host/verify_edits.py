@@ -36,6 +36,7 @@ NO_FACT = {  # what an error may say that shows nothing of the contract
     "a limit of the prover": re.compile(r".*(antt ran out of|outgrew the memory limit|stopped at the step limit)"),
 }
 OF_A_FUNCTION = ("/Answers", "/Invariants", "/Proof")
+IMPL = re.compile(r"^impl(?:<[^>]*>)? (\w+)(?:<[^>]*>)? for (\w+)", re.M)
 
 
 def changed(crate, edit):
@@ -52,6 +53,16 @@ def changed(crate, edit):
     return texts
 
 
+def of_its_type(crate, function):
+    """A function of an impl of a trait by its type, where rt names it by the type and the trait in one."""
+    *before, function = function.split("::")
+    for path in sorted((ROOT / "crates" / crate / "src").rglob("*.rt")):
+        for trait, kind in IMPL.findall(contents(str(path.relative_to(ROOT)))):
+            if before and before[-1].startswith(kind) and before[-1].endswith(trait):
+                before[-1] = kind
+    return "::".join((*before, function))
+
+
 def fact_in(crate, edit, line):
     """What has a fact that is not proved, by a line of rt, and the fact: a function by its module and type, or a file of
     lemmas. A fact that rt cut short has two dots at its end; None where the line tells of no fact."""
@@ -59,7 +70,7 @@ def fact_in(crate, edit, line):
         part, file, name = match.groups()
         of = [file.removesuffix(end).replace("/", "::") for end in OF_A_FUNCTION if file.endswith(end)]
         none = [what for what, pattern in NO_FACT.items() if pattern.match(line)]
-        return of[0] if of else f"{part}/{file}", none[0] if none else name
+        return of_its_type(crate, of[0]) if of else f"{part}/{file}", none[0] if none else name
     if match := IN_THE_CODE.match(line):
         path, at, name, whole = match.groups()
         text = changed(crate, edit).get(path) or contents(f"crates/{crate}/{path}")

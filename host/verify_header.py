@@ -208,7 +208,7 @@ def constants_of_crates():
     numbers = source("refusal/src/lib.rt").split("pub fn number")[1].split("pub fn place")[0]
     cases = re.findall(r"Refusal::(\w+)(?:\(_\))? => (\d+),", numbers)
     named = {"GV_" + re.sub(r"(?<!^)(?=[A-Z])", "_", case).upper(): int(number) for case, number in cases}
-    accepted = r"Verdict::Accepted => (\d+),(?=\s*Verdict::Refused\(why\) => why.number)"
+    accepted = r"Ok\(_\) => (\d+),(?=\s*Err\(why\) => why.number)"
     largest = number_in("triangle/src/table.rt", r"pub const LARGEST: u64 = ([\d_]+);")
     version = number_in("ghanveltri/src/lib.rt", r"const VERSION: u64 = ([\d_]+);")
     return named | {

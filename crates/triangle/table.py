@@ -13,6 +13,11 @@ import textwrap
 
 HERE = pathlib.Path(__file__).resolve().parent
 WIDTH = 120
+WHY_THREE = (
+    "Three functions and not one with a parameter: they differ in the arms of a match, which are literals. A list of "
+    "counts as an argument would be an array, built anew at each read (200 ns, bench/RESULTS.md), and one match of all "
+    "is more than one function's check takes."
+)
 OF_CODE, SHORT = 99, 10  # as `rt fmt` lays out an array: the width of a line, and the longest entries that share one
 
 
@@ -76,6 +81,7 @@ def rattle(rows):
     out += ["    FORMS[t as usize][s as usize]", "}", ""]
     out += ["// The whole table. [F2]"]
     out += [f"pub fn rows() -> [[u64; {SIZE}]; {SIZE}]", "    ensures { result ≡ table }", "{", "    FORMS", "}", ""]
+    out += [f"// {line}" for line in textwrap.wrap(WHY_THREE, WIDTH - 3)]
     for name, first, part in parts(rows):
         counts = [n for row in part for n in row]
         out += [f"// The entry at t, s, which stands at i among the counts with s up to t from row {first} on."]

@@ -7,16 +7,18 @@ mod checks;
 mod offs;
 mod tables;
 
-fn main() {
-    tables::counts();
-    tables::lists();
-    checks::counts();
-    checks::sizes();
-    checks::lengths();
-    checks::bad_beats();
-    checks::empty_hands();
-    checks::wrong_take_ups();
-    checks::limits();
-    checks::extremes();
-    offs::lists();
+use std::io;
+
+fn main(rt: HostRuntime) -> io::Result<()> {
+    tables::counts(&rt)?;
+    tables::lists(&rt)?;
+    checks::counts(&rt)?;
+    checks::sizes(&rt)?;
+    checks::lengths(&rt)?;
+    checks::bad_beats(&rt)?;
+    checks::empty_hands(&rt)?;
+    checks::wrong_take_ups(&rt)?;
+    checks::limits(&rt)?;
+    checks::extremes(&rt)?;
+    offs::lists(&rt)
 }

@@ -1,72 +1,52 @@
 // How far the ones of every short list of zeros and ones are off, for each pair of counts of its length. [Q7]
 use crate::tables::spell;
-use refusal::Verdict;
+use refusal::Refusal;
+use show::Pairs;
+use std::io;
 
 // How many lists were refused 6, and the digest of every list's verdict.
-#[derive(Clone, Copy)]
+#[derive(Clone, Copy, Default)]
 struct Tally {
     off: u64,
     sum: u64,
 }
 
-// 1 where a verdict is a 6, and else 0.
-fn six(v: Verdict) -> u64 {
-    if v.refusal() == 6 { 1 } else { 0 }
-}
-
-// The verdicts on the words below `words`, as lists of the lent length.
-fn asked(t: u64, s: u64, beats: &mut [u8], words: u64) -> Tally {
-    let mut off: u64 = 0;
-    let mut sum: u64 = 0;
-    for word in 0..words {
-        spell(word, beats);
-        let v = schedule::check(t, s, beats);
-        sum = show::fold_verdict(sum, v);
-        off = std::num::wrapping_add_u64(off, six(v));
-    }
-    Tally { off, sum }
-}
-
-// All lists of t + s zeros and ones, where they are at most 12 beats long.
-fn asked_of_all(t: u64, s: u64) -> Tally {
-    if 12 < t {
-        return Tally { off: 0, sum: 0 };
-    }
-    if 12 - t < s {
-        return Tally { off: 0, sum: 0 };
-    }
-    let mut beats = [0u8; 12];
-    let n = (t + s) as usize;
-    asked(t, s, &mut beats[..n], 1 << (t + s))
-}
-
-fn line(t: u64, s: u64) {
-    let tally = asked_of_all(t, s);
-    show::text(b"off ");
-    show::number(t);
-    show::text(b" ");
-    show::number(s);
-    show::text(b": ");
-    show::number(tally.off);
-    show::text(b" ");
-    show::number(tally.sum);
-    show::text(b"\n");
-}
-
-// A line for each s up to t, where that makes at most 12 beats.
-fn row(t: u64) {
-    for s in 0..13u64 {
-        if s <= t {
-            if t <= 12 - s {
-                line(t, s);
-            }
+impl Tally {
+    // The tally with one more verdict.
+    fn with(self, v: Result<(), Refusal>) -> Tally {
+        let six = matches!(v, Err(Refusal::WrongTakeUps(_)));
+        Tally {
+            off: self.off.wrapping_add(u64::from(six)),
+            sum: show::fold_verdict(self.sum, v),
         }
     }
 }
 
-// A line for each pair of counts with at most 12 beats.
-pub fn lists() {
-    for t in 0..13u64 {
-        row(t);
+// The verdicts on the words below `words`, as lists of the lent length.
+fn asked(t: u64, s: u64, beats: &mut [u8], words: u64) -> Tally {
+    let mut tally = Tally::default();
+    for word in 0..words {
+        spell(word, beats);
+        tally = tally.with(schedule::check(t, s, beats));
     }
+    tally
+}
+
+// The line of all lists of t + s zeros and ones, where they are at most 12 beats long.
+fn line(rt: &impl Print, t: u64, s: u64) -> io::Result<()> {
+    if 12 < t || 12 - t < s {
+        return Ok(());
+    }
+    let mut beats = [0u8; 12];
+    let n = (t + s) as usize;
+    let Tally { off, sum } = asked(t, s, &mut beats[..n], 1 << n);
+    println!(rt; "off {t} {s}: {off} {sum}")
+}
+
+// A line for each pair of counts with at most 12 beats.
+pub fn lists(rt: &impl Print) -> io::Result<()> {
+    for (t, s) in Pairs::below(13) {
+        line(rt, t, s)?;
+    }
+    Ok(())
 }

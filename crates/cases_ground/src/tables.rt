@@ -1,75 +1,70 @@
 // The triangle of counts twice: by the count, and by the check of every list of zeros and ones.
+use show::Answer;
+use std::io;
+use triangle::LARGEST;
 
 // A row of the counts of t.
-fn count_row(t: u64) {
-    show::text(b"counts of ");
-    show::number(t);
-    show::text(b":");
-    for s in 0..triangle::LARGEST + 1 {
-        if s <= t {
-            show::text(b" ");
-            show::answer(counts::count(t, s));
-        }
+fn count_row(rt: &impl Print, t: u64) -> io::Result<()> {
+    print!(rt; "counts of {t}:")?;
+    for s in 0..=t {
+        print!(rt; " {}", Answer(counts::count(t, s)))?;
     }
-    show::text(b"\n");
+    println!(rt)
 }
 
 // How many forms there are, a row for each t; the rows 0 to 8 are Table 1.
-pub fn counts() {
-    for t in 0..triangle::LARGEST + 1 {
-        count_row(t);
+pub fn counts(rt: &impl Print) -> io::Result<()> {
+    for t in 0..=LARGEST {
+        count_row(rt, t)?;
     }
+    Ok(())
 }
 
 // The bits of a number as beats, the lowest first.
 pub fn spell(word: u64, beats: &mut [u8]) {
     let mut rest = word;
-    for i in 0..beats.len() {
-        beats[i] = (rest % 2) as u8;
+    for beat in beats {
+        *beat = (rest % 2) as u8;
         rest /= 2;
     }
 }
 
+// Whether a word spells a schedule of t and s, which is written to the lent beats.
+fn accepts(t: u64, s: u64, beats: &mut [u8], word: u64) -> bool {
+    spell(word, beats);
+    schedule::check(t, s, beats).is_ok()
+}
+
 // How many of the words below `words` spell a schedule of t and s.
-fn accepted(t: u64, s: u64, beats: &mut [u8], words: u64) -> u64 {
-    let mut found: u64 = 0;
-    for word in 0..words {
-        spell(word, beats);
-        if schedule::check(t, s, beats).refusal() == 0 {
-            found += 1;
-        }
-    }
-    found
+fn accepted(t: u64, s: u64, beats: &mut [u8], words: u64) -> usize {
+    (0..words)
+        .filter(|&word| accepts(t, s, beats, word))
+        .count()
 }
 
 // How many of all lists of t + s zeros and ones are schedules of t and s; for up to 16 beats.
-fn accepted_of_all(t: u64, s: u64) -> u64 {
-    if 8 < t {
-        return 0;
-    }
-    if 8 < s {
+fn accepted_of_all(t: u64, s: u64) -> usize {
+    if 8 < t || 8 < s {
         return 0;
     }
     let mut beats = [0u8; 16];
     let n = (t + s) as usize;
-    accepted(t, s, &mut beats[..n], 1 << (t + s))
+    accepted(t, s, &mut beats[..n], 1 << n)
 }
 
 // A row of how many lists of t + s zeros and ones the check accepts, for s from 0 to 8.
-fn list_row(t: u64) {
-    show::text(b"lists of ");
-    show::number(t);
-    show::text(b":");
-    for s in 0..9u64 {
-        show::text(b" ");
-        show::number(accepted_of_all(t, s));
+fn list_row(rt: &impl Print, t: u64) -> io::Result<()> {
+    print!(rt; "lists of {t}:")?;
+    for s in 0..=8 {
+        print!(rt; " {}", accepted_of_all(t, s))?;
     }
-    show::text(b"\n");
+    println!(rt)
 }
 
 // How many lists of zeros and ones the check accepts, a row for each t from 0 to 8.
-pub fn lists() {
-    for t in 0..9u64 {
-        list_row(t);
+pub fn lists(rt: &impl Print) -> io::Result<()> {
+    for t in 0..=8 {
+        list_row(rt, t)?;
     }
+    Ok(())
 }

@@ -8,17 +8,19 @@ mod asks;
 mod numbers;
 mod ways;
 
-fn main() {
-    ways::print_rows(9, true);
-    ways::print_rows(triangle::LARGEST + 1, false);
-    numbers::rounds();
-    numbers::largest();
-    numbers::refusals();
-    numbers::first_refusals();
-    asks::forms();
-    asks::longest();
-    asks::form_refusals();
-    asks::sheets();
-    asks::empty_forms();
-    asks::sheet_refusals();
+use std::io;
+
+fn main(rt: HostRuntime) -> io::Result<()> {
+    ways::all(&rt)?;
+    ways::some(&rt)?;
+    numbers::rounds(&rt)?;
+    numbers::largest(&rt)?;
+    numbers::refusals(&rt)?;
+    numbers::first_refusals(&rt)?;
+    asks::forms(&rt)?;
+    asks::longest(&rt)?;
+    asks::form_refusals(&rt)?;
+    asks::sheets(&rt)?;
+    asks::empty_forms(&rt)?;
+    asks::sheet_refusals(&rt)
 }

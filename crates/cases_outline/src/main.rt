@@ -14,40 +14,43 @@ mod rows;
 mod ways;
 mod writes;
 
-fn print_sizes() {
-    ways::print_sizes(b"", 4, ways::IN_FULL);
-    ways::print_sizes(b"outlines ", 9, ways::THERE_AND_BACK);
-    ways::print_sizes(b"outline_bytes ", 5, ways::BYTES);
-    ways::print_sizes(b"outline_rows ", 5, ways::ROWS);
-    longest::print_forms();
+use std::io;
+
+fn print_sizes(rt: &impl Print) -> io::Result<()> {
+    ways::print_full(rt, 4)?;
+    ways::print_sizes(rt, "outlines", 9, |tally, n, beats| tally.both(n, beats))?;
+    ways::print_sizes(rt, "outline_bytes", 5, edits::each)?;
+    ways::print_sizes(rt, "outline_rows", 5, rows::each)?;
+    longest::print_forms(rt)
 }
 
-fn print_writes() {
-    writes::sizes();
-    writes::lengths();
-    writes::beats();
-    writes::open_ones();
-    writes::rooms();
-    writes::other_rooms();
-    writes::first_counts();
-    writes::first_lengths();
-    writes::first_beats();
-    writes::first_open_ones();
-    writes::limits();
+fn print_writes(rt: &impl Print) -> io::Result<()> {
+    writes::sizes(rt)?;
+    writes::lengths(rt)?;
+    writes::beats(rt)?;
+    writes::open_ones(rt)?;
+    writes::rooms(rt)?;
+    writes::other_rooms(rt)?;
+    writes::first_counts(rt)?;
+    writes::first_lengths(rt)?;
+    writes::first_beats(rt)?;
+    writes::first_open_ones(rt)?;
+    writes::limits(rt)
 }
 
-fn main() {
-    print_sizes();
-    print_writes();
-    reads::sizes();
-    reads::lengths();
-    reads::first_refusals();
-    reads::nothing();
-    reads::missing();
-    reads::surplus();
-    reads::odd_numbers();
-    reads::odd_bytes();
-    reads::odd_dots();
-    reads::turns();
-    reads::large_numbers();
+fn main(rt: HostRuntime) -> io::Result<()> {
+    let rt = &rt;
+    print_sizes(rt)?;
+    print_writes(rt)?;
+    reads::sizes(rt)?;
+    reads::lengths(rt)?;
+    reads::first_refusals(rt)?;
+    reads::nothing(rt)?;
+    reads::missing(rt)?;
+    reads::surplus(rt)?;
+    reads::odd_numbers(rt)?;
+    reads::odd_bytes(rt)?;
+    reads::odd_dots(rt)?;
+    reads::turns(rt)?;
+    reads::large_numbers(rt)
 }

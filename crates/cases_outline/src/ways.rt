@@ -1,72 +1,60 @@
-// All closed schedules of the small counts: in full, in digests there and back, and with their texts damaged.
-use crate::edits::LONG;
+// All closed schedules of the small counts: in full, and what is asked of each of them in digests.
+use crate::asks;
 use crate::folds::Tally;
-use crate::{asks, edits, folds, rows};
+use std::io;
 
-// What is asked of each schedule: a line for each, or one for all of a size.
-pub const IN_FULL: u64 = 0;
-
-pub const THERE_AND_BACK: u64 = 1;
-
-pub const BYTES: u64 = 2;
-
-pub const ROWS: u64 = 3;
-
-// The text of a schedule with its bytes or its lines changed; for texts of fewer than LONG bytes.
-fn damage(tally: Tally, n: u64, beats: &[u8], kind: u64) -> Tally {
-    let mut text = [b'#'; LONG];
-    let length = outline::outline(n, n, beats, &mut text).value() as usize;
-    if LONG <= length {
-        return tally;
-    }
-    if kind == BYTES {
-        return edits::each(tally, n, &mut text[..length]);
-    }
-    rows::each(tally, n, &text[..length])
+// The closed schedule of n tasks with a number, in room that is long enough for it.
+fn closed(n: u64, number: u64, room: &mut [u8]) -> Option<&[u8]> {
+    let length = usize::try_from(n.checked_add(n)?).ok()?;
+    let beats = room.get_mut(..length)?;
+    form::form(n, n, number, beats).ok()?;
+    Some(beats)
 }
 
-fn ask(tally: Tally, n: u64, beats: &[u8], kind: u64) -> Tally {
-    if kind == IN_FULL {
-        asks::both(n, beats);
-        return tally;
+// Every schedule of n tasks by its number, for n up to 8.
+fn print_each(rt: &impl Print, n: u64) -> io::Result<()> {
+    let mut room = [7u8; 16];
+    for number in 0..refusal::value(counts::count(n, n)) {
+        if let Some(beats) = closed(n, number, &mut room) {
+            asks::both(rt, n, beats)?;
+        }
     }
-    if kind == THERE_AND_BACK {
-        return folds::both(tally, n, beats);
-    }
-    damage(tally, n, beats, kind)
+    Ok(())
 }
 
-// Every closed schedule of n tasks by its number.
-fn ask_each(n: u64, beats: &mut [u8], kind: u64) -> Tally {
-    let forms = counts::count(n, n).value();
-    let mut tally = folds::none();
-    for x in 0..forms {
-        form::form(n, n, x, beats);
-        tally = ask(tally, n, beats, kind);
+// The schedules of fewer than `sizes` tasks, in full.
+pub fn print_full(rt: &impl Print, sizes: u64) -> io::Result<()> {
+    for n in 0..sizes {
+        print_each(rt, n)?;
+    }
+    Ok(())
+}
+
+// What is asked of every schedule of n tasks, for n up to 8.
+fn ask_each<F: Fn(&mut Tally, u64, &[u8])>(n: u64, ask: &F) -> Tally
+    requires { F.IsAlwaysCallable ask.now }
+{
+    let mut tally = Tally::default();
+    let mut room = [7u8; 16];
+    for number in 0..refusal::value(counts::count(n, n)) {
+        if let Some(beats) = closed(n, number, &mut room) {
+            ask(&mut tally, n, beats);
+        }
     }
     tally
 }
 
-// The schedules of n tasks, for n up to 8.
-fn print_size(name: &[u8], n: u64, kind: u64) {
-    if 8 < n {
-        return;
-    }
-    let mut beats = [7u8; 16];
-    let m = (n + n) as usize;
-    let tally = ask_each(n, &mut beats[..m], kind);
-    if kind == IN_FULL {
-        return;
-    }
-    show::text(name);
-    show::number(n);
-    show::text(b": ");
-    folds::print(tally);
-}
-
-// The schedules of fewer than `sizes` tasks.
-pub fn print_sizes(name: &[u8], sizes: u64, kind: u64) {
+// The same of the schedules of fewer than `sizes` tasks, a line for each size.
+pub fn print_sizes<F: Fn(&mut Tally, u64, &[u8])>(
+    rt: &impl Print,
+    name: &str,
+    sizes: u64,
+    ask: F,
+) -> io::Result<()>
+    requires { F.IsAlwaysCallable ask }
+{
     for n in 0..sizes {
-        print_size(name, n, kind);
+        println!(rt; "{name} {n}: {}", ask_each(n, &ask))?;
     }
+    Ok(())
 }

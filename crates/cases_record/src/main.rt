@@ -11,54 +11,58 @@ mod changes;
 mod folds;
 mod forms;
 mod held;
+mod known;
 mod orders;
 mod reads;
 mod spelled;
 mod writes;
 
-fn print_forms() {
-    forms::small();
-    forms::middle();
-    forms::large();
-    backs::print_sizes(8);
-    backs::print_scattered(8, triangle::LARGEST + 1);
-    changes::print_all();
+use std::io;
+
+fn print_forms(rt: &impl Print) -> io::Result<()> {
+    forms::small(rt)?;
+    forms::middle(rt)?;
+    forms::large(rt)?;
+    backs::print_sizes(rt, 8)?;
+    backs::print_scattered(rt, 8, triangle::LARGEST + 1)?;
+    changes::print_all(rt)
 }
 
-fn print_writes() {
-    writes::kinds();
-    writes::sizes();
-    writes::lengths();
-    writes::beats();
-    writes::rooms();
-    writes::first_refusals();
+fn print_writes(rt: &impl Print) -> io::Result<()> {
+    writes::kinds(rt)?;
+    writes::sizes(rt)?;
+    writes::lengths(rt)?;
+    writes::beats(rt)?;
+    writes::rooms(rt)?;
+    writes::first_refusals(rt)
 }
 
-fn print_reads() {
-    reads::rooms();
-    reads::cuts();
-    reads::short();
-    reads::kinds();
-    reads::numbered_lengths();
-    reads::packed_lengths();
-    reads::sizes();
-    reads::exact_lengths();
-    reads::unused_bits();
-    reads::numbers();
-    reads::empty_hands();
-    reads::take_ups();
-    reads::long();
+fn print_reads(rt: &impl Print) -> io::Result<()> {
+    reads::rooms(rt)?;
+    reads::cuts(rt)?;
+    reads::short(rt)?;
+    reads::kinds(rt)?;
+    reads::numbered_lengths(rt)?;
+    reads::packed_lengths(rt)?;
+    reads::sizes(rt)?;
+    reads::exact_lengths(rt)?;
+    reads::unused_bits(rt)?;
+    reads::numbers(rt)?;
+    reads::empty_hands(rt)?;
+    reads::take_ups(rt)?;
+    reads::long(rt)
 }
 
-fn main() {
-    print_forms();
-    print_writes();
-    print_reads();
-    orders::no_room();
-    orders::cut_short();
-    orders::of_kinds();
-    orders::of_sizes();
-    orders::of_lengths();
-    orders::of_beats();
-    orders::long();
+fn main(rt: HostRuntime) -> io::Result<()> {
+    let rt = &rt;
+    print_forms(rt)?;
+    print_writes(rt)?;
+    print_reads(rt)?;
+    orders::no_room(rt)?;
+    orders::cut_short(rt)?;
+    orders::of_kinds(rt)?;
+    orders::of_sizes(rt)?;
+    orders::of_lengths(rt)?;
+    orders::of_beats(rt)?;
+    orders::long(rt)
 }

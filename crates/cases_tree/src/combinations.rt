@@ -1,77 +1,59 @@
 // The way back of every three tables for 1 and for 2 tasks whose entries are 0, 1, 2, 3 or 255. A line for
 // each combination that is accepted, and one for all of them.
+use crate::asks;
 use crate::folds::Tally;
-use crate::{asks, folds};
+use crate::tables::Tables;
+use std::io;
 
-fn entry(digit: u64) -> u8 {
-    match digit {
-        0 => 0,
-        1 => 1,
-        2 => 2,
-        3 => 3,
-        _ => 255,
-    }
-}
+const ENTRIES: [u8; 5] = [0, 1, 2, 3, 255];
 
 // Entries by the digits of a number to the base 5, the lowest first. Answers what is left of the number.
 fn spell(word: u64, table: &mut [u8]) -> u64 {
     let mut rest = word;
-    for i in 0..table.len() {
-        table[i] = entry(rest % 5);
+    for entry in table {
+        *entry = ENTRIES[(rest % 5) as usize];
         rest /= 5;
     }
     rest
 }
 
-// The tables of one number, for n up to 2: the left ones have its lowest digits, the parents the highest.
-fn ask(
-    tally: Tally,
-    n: u64,
+// Spells a number in three tables, the left one first and that of the parents last, and asks for their schedule.
+fn ask<const N: usize>(
+    rt: &impl Print,
+    tally: &mut Tally,
+    tables: &mut [[u8; N]; 3],
     word: u64,
-    left: &mut [u8],
-    right: &mut [u8],
-    parent: &mut [u8],
-) -> Tally {
-    if 2 < n {
-        return tally;
+) -> io::Result<()> {
+    let mut rest = word;
+    for table in tables.iter_mut() {
+        rest = spell(rest, table);
     }
-    let rights = spell(word, left);
-    let parents = spell(rights, right);
-    spell(parents, parent);
-    let after = folds::back(tally, n, left, right, parent);
-    if after.accepted != tally.accepted {
-        asks::back(n, left, right, parent, (n + n) as usize);
+    let [left, right, parent] = &*tables;
+    let tables = Tables {
+        left,
+        right,
+        parent,
+    };
+    if tally.back(N as u64, tables) {
+        asks::back(rt, N as u64, tables, N.saturating_add(N))?;
     }
-    after
+    Ok(())
 }
 
-// The tables of all numbers below `words`.
-fn print_words(n: u64, words: u64, left: &mut [u8], right: &mut [u8], parent: &mut [u8]) {
-    let mut tally = folds::none();
+// The tables of all numbers below `words`, in three lent ones.
+fn print_words<const N: usize>(
+    rt: &impl Print,
+    mut tables: [[u8; N]; 3],
+    words: u64,
+) -> io::Result<()> {
+    let mut tally = Tally::default();
     for word in 0..words {
-        tally = ask(tally, n, word, left, right, parent);
+        ask(rt, &mut tally, &mut tables, word)?;
     }
-    show::text(b"combinations ");
-    show::number(n);
-    show::text(b": ");
-    folds::print(tally);
+    println!(rt; "combinations {N}: {tally}")
 }
 
-fn print_one() {
-    let mut left = [0u8; 1];
-    let mut right = [0u8; 1];
-    let mut parent = [0u8; 1];
-    print_words(1, 125, &mut left, &mut right, &mut parent);
-}
-
-fn print_two() {
-    let mut left = [0u8; 2];
-    let mut right = [0u8; 2];
-    let mut parent = [0u8; 2];
-    print_words(2, 15625, &mut left, &mut right, &mut parent);
-}
-
-pub fn print_all() {
-    print_one();
-    print_two();
+pub fn print_all(rt: &impl Print) -> io::Result<()> {
+    print_words(rt, [[0; 1]; 3], 125)?;
+    print_words(rt, [[0; 2]; 3], 15625)
 }

@@ -10,29 +10,33 @@ mod backs;
 mod combinations;
 mod damage;
 mod folds;
+mod tables;
 mod trees;
 mod ways;
 
-fn main() {
-    ways::example();
-    ways::print_sizes(4, true);
-    ways::print_sizes(8, false);
-    combinations::print_all();
-    damage::print_forms();
-    trees::sizes();
-    trees::lengths();
-    trees::table_lengths();
-    trees::beats();
-    trees::first_refusals();
-    trees::limits();
-    backs::sizes();
-    backs::lengths();
-    backs::table_lengths();
-    backs::first_refusals();
-    backs::entries();
-    backs::children();
-    backs::parents();
-    backs::orders();
-    backs::unreached();
-    backs::limits();
+use std::io;
+
+fn main(rt: HostRuntime) -> io::Result<()> {
+    let rt = &rt;
+    ways::example(rt)?;
+    ways::print_each(rt, 4)?;
+    ways::print_digests(rt, 8)?;
+    combinations::print_all(rt)?;
+    damage::print_forms(rt)?;
+    trees::sizes(rt)?;
+    trees::lengths(rt)?;
+    trees::table_lengths(rt)?;
+    trees::beats(rt)?;
+    trees::first_refusals(rt)?;
+    trees::limits(rt)?;
+    backs::sizes(rt)?;
+    backs::lengths(rt)?;
+    backs::table_lengths(rt)?;
+    backs::first_refusals(rt)?;
+    backs::entries(rt)?;
+    backs::children(rt)?;
+    backs::parents(rt)?;
+    backs::orders(rt)?;
+    backs::unreached(rt)?;
+    backs::limits(rt)
 }

@@ -1,59 +1,53 @@
 // Closed schedules there and back: the example of the manual, all schedules of 0 to 3 tasks in full, and
 // all of 0 to 7 tasks in digests.
-use crate::{asks, folds};
+use crate::asks;
+use crate::folds::Tally;
+use std::io;
 
 // The manual's tree of 111001001100.
-pub fn example() {
-    asks::both(6, &[1, 1, 1, 0, 0, 1, 0, 0, 1, 1, 0, 0]);
+pub fn example(rt: &impl Print) -> io::Result<()> {
+    asks::both(rt, 6, &[1, 1, 1, 0, 0, 1, 0, 0, 1, 1, 0, 0])
 }
 
-// Every closed schedule of n tasks by its number.
-fn print_each(n: u64, beats: &mut [u8]) {
-    let forms = counts::count(n, n).value();
-    for x in 0..forms {
-        form::form(n, n, x, beats);
-        asks::both(n, beats);
-    }
-}
-
-// How many of them came back, and the digest.
-fn print_digest(n: u64, beats: &mut [u8]) {
-    let forms = counts::count(n, n).value();
-    let mut tally = folds::none();
-    for x in 0..forms {
-        form::form(n, n, x, beats);
-        tally = folds::both(tally, n, beats);
-    }
-    show::text(b"trees ");
-    show::number(n);
-    show::text(b": ");
-    folds::print(tally);
-}
-
-// The schedules of n tasks, for n up to 7.
-fn print_size(n: u64, full: bool) {
+// Does something with every closed schedule of n tasks by its number, for n up to 7.
+fn each<F: FnMut(&[u8]) -> io::Result<()>>(n: u64, mut act: F) -> io::Result<()>
+    requires { F.IsAlwaysCallable act }
+{
     if 7 < n {
-        return;
+        return Ok(());
     }
     let mut beats = [7u8; 14];
-    let m = (n + n) as usize;
-    if full {
-        print_each(n, &mut beats[..m]);
-    } else {
-        print_digest(n, &mut beats[..m]);
+    let beats = &mut beats[..(n + n) as usize];
+    for x in 0..refusal::value(counts::count(n, n)) {
+        if form::form(n, n, x, beats).is_ok() {
+            act(beats)?;
+        }
     }
+    Ok(())
 }
 
-// The schedules of fewer than `sizes` tasks.
-pub fn print_sizes(sizes: u64, full: bool) {
+// The schedules of fewer than `sizes` tasks, in full.
+pub fn print_each(rt: &impl Print, sizes: u64) -> io::Result<()> {
     for n in 0..sizes {
-        print_size(n, full);
+        each(n, |beats| asks::both(rt, n, beats))?;
     }
+    Ok(())
 }
 
-// Ones and zeros in turn.
-pub fn alternate(beats: &mut [u8]) {
-    for i in 0..beats.len() {
-        beats[i] = if i % 2 == 0 { 1 } else { 0 };
+// How many of those of n tasks came back, and the digest.
+fn print_digest(rt: &impl Print, n: u64) -> io::Result<()> {
+    let mut tally = Tally::default();
+    each(n, |beats| {
+        tally.both(n, beats);
+        Ok(())
+    })?;
+    println!(rt; "trees {n}: {tally}")
+}
+
+// The schedules of fewer than `sizes` tasks, in digests.
+pub fn print_digests(rt: &impl Print, sizes: u64) -> io::Result<()> {
+    for n in 0..sizes {
+        print_digest(rt, n)?;
     }
+    Ok(())
 }

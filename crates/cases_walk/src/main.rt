@@ -7,20 +7,24 @@
 mod circles;
 mod reasons;
 mod runs;
+mod way;
 
-fn main() {
-    circles::print_rows(5, true, false);
-    circles::print_rows(5, true, true);
-    circles::print_rows(9, false, false);
-    circles::print_rows(9, false, true);
-    runs::steps();
-    runs::refusals();
-    runs::lengths();
-    runs::long();
-    runs::backs();
-    reasons::examples();
-    reasons::refusals();
-    reasons::first_refusals();
-    reasons::largest();
-    reasons::rounds();
+use std::io;
+use way::{Back, On};
+
+fn main(rt: HostRuntime) -> io::Result<()> {
+    circles::orders(&rt, &On)?;
+    circles::orders(&rt, &Back)?;
+    circles::rounds(&rt, &On)?;
+    circles::rounds(&rt, &Back)?;
+    runs::steps(&rt)?;
+    runs::refusals(&rt)?;
+    runs::lengths(&rt)?;
+    runs::long(&rt)?;
+    runs::backs(&rt)?;
+    reasons::examples(&rt)?;
+    reasons::refusals(&rt)?;
+    reasons::first_refusals(&rt)?;
+    reasons::largest(&rt)?;
+    reasons::rounds(&rt)
 }

@@ -3,14 +3,13 @@
 -- in the crate `demands`. Assumes nothing.
 use mathlib.Core.Bool.{true, false}
 use mathlib.Core.List.{List, [], ◌∷◌}
-use mathlib.Core.Path.{◌≡◌, refl, ap}
-use Prim.Native.Nat.{ℕ}
+use mathlib.Core.Path.{◌≡◌, refl, ap, ◌∙◌}
+use Prim.Native.Nat.{ℕ, zero, suc}
 use native.Mathlib.Omega.{arith}
 use lib.ListN.{get_or}
+use Rattle.std.proofs.Common.{Ok, Err}
 use Rattle.bounded.specs.Bounded.{every, first_from}
 use Rattle.refusal.specs.declared.Refusal.TheVariants.{RunTooLong, EmptyHand}
-use Rattle.refusal.specs.declared.Answer.{Answer}
-use Rattle.refusal.specs.declared.Verdict.{Verdict}
 use Rattle.refusal.specs.Rows.{judge}
 use Rattle.triangle.specs.Count.{N}
 use Rattle.schedule.specs.Schedule.{ones, zeros, Schedule, is_schedule}
@@ -20,7 +19,9 @@ use Rattle.circle.specs.Step.{shift, is01, found, has01, moves_next, next, top}
 use Rattle.circle.specs.Walk.{steps, changed, worked, is_dip, dips, OneWay}
 use Rattle.circle.specs.Back.{unshift, others, after_found, before_found, fits, previous}
 use Rattle.circle.specs.Back.{Precedes, steps_back, worked_back}
-use Rattle.circle.specs.Plan.{Form, applied, changes, Inside, Plans}
+use Rattle.circle.specs.Found.{ups, downs, Found, flat, rising}
+use Rattle.circle.specs.Plan.{Form, stored, applied, changes, Inside, Leads, Plans}
+use Rattle.circle.specs.Way.{Goes, goes_on}
 use Rattle.circle.specs.Answers.{run_rows, next_answer, next_left, run_answer, run_left}
 use Rattle.circle.proofs.Circle.{steps-schedule}
 use Rattle.circle.proofs.Theorems.{circle}
@@ -136,11 +137,11 @@ unfolding shift found has01 moves_next next first_from every ones zeros is_sched
 one-dip = refl
 
 -- the longest run, and one step more
-run-65535 : judge (run_rows 1 1 (1 ∷ 0 ∷ []) 65535) ≡ Verdict.Accepted
+run-65535 : judge (run_rows 1 1 (1 ∷ 0 ∷ []) 65535) ≡ Ok tt
 unfolding first_from ones zeros
 run-65535 = refl
 
-run-65536 : judge (run_rows 1 1 (1 ∷ 0 ∷ []) 65536) ≡ Verdict.Refused RunTooLong
+run-65536 : judge (run_rows 1 1 (1 ∷ 0 ∷ []) 65536) ≡ Err RunTooLong
 unfolding first_from ones zeros
 run-65536 = refl
 
@@ -226,11 +227,11 @@ unfolding N shift found has01 moves_next next first_from every ones zeros is_sch
 five-ways p = omega (arith, p.only 1 (omega arith) (omega arith) refl, p.only 2 (omega arith) (omega arith) refl)
 
 -- what the calls answer and leave: 11100, two beats on its way to 10110, and 1001, which has nothing in hand at place 2
-next-answers-2 : next_answer 3 2 (1 ∷ 1 ∷ 1 ∷ 0 ∷ 0 ∷ []) ≡ Answer.Value 2
+next-answers-2 : next_answer 3 2 (1 ∷ 1 ∷ 1 ∷ 0 ∷ 0 ∷ []) ≡ Ok 2
 unfolding changed every first_from ones zeros is_schedule shift found has01 moves_next next
 next-answers-2 = refl
 
-next-refuses-5 : next_answer 2 2 (1 ∷ 0 ∷ 0 ∷ 1 ∷ []) ≡ Answer.Refused (EmptyHand 2)
+next-refuses-5 : next_answer 2 2 (1 ∷ 0 ∷ 0 ∷ 1 ∷ []) ≡ Err (EmptyHand 2)
 unfolding first_from ones zeros
 next-refuses-5 = refl
 
@@ -243,11 +244,11 @@ unfolding first_from ones zeros
 next-leaves-1001 = refl
 
 -- two steps from 11100, and one step too many for a run
-run-answers-4 : run_answer 3 2 (1 ∷ 1 ∷ 1 ∷ 0 ∷ 0 ∷ []) 2 ≡ Answer.Value 4
+run-answers-4 : run_answer 3 2 (1 ∷ 1 ∷ 1 ∷ 0 ∷ 0 ∷ []) 2 ≡ Ok 4
 unfolding worked steps changed every first_from ones zeros is_schedule shift found has01 moves_next next
 run-answers-4 = refl
 
-run-refuses-13 : run_answer 1 0 (1 ∷ []) 65536 ≡ Answer.Refused RunTooLong
+run-refuses-13 : run_answer 1 0 (1 ∷ []) 65536 ≡ Err RunTooLong
 unfolding first_from ones zeros
 run-refuses-13 = refl
 
@@ -371,3 +372,49 @@ four-worked-back = refl
 none-worked-back : worked_back 0 (1 ∷ 0 ∷ 1 ∷ 0 ∷ 1 ∷ []) ≡ 0
 unfolding worked_back
 none-worked-back = refl
+
+-- ones and zeros in front, and none
+ups-two : ups 2 (0 ∷ []) ≡ 1 ∷ 1 ∷ 0 ∷ []
+ups-two = refl
+
+ups-none : ups 0 (0 ∷ []) ≡ 0 ∷ []
+ups-none = refl
+
+downs-two : downs 2 (1 ∷ []) ≡ 0 ∷ 0 ∷ 1 ∷ []
+downs-two = refl
+
+downs-none : downs 0 (1 ∷ []) ≡ 1 ∷ []
+downs-none = refl
+
+-- 11010 has its leftmost 0 at place 2, and at no other
+found-2 : Found (1 ∷ 1 ∷ 0 ∷ 1 ∷ 0 ∷ []) 2 3
+found-2 = rising 1 0 (0 ∷ []) refl refl refl
+
+found-not-1 : Found (1 ∷ 1 ∷ 0 ∷ 1 ∷ 0 ∷ []) 1 3 → ⊥
+found-not-1 (flat zero q e f g) = omega arith
+found-not-1 (flat (suc zero) zero e f g) = omega arith
+found-not-1 (flat (suc zero) (suc q) e f g) = omega (arith, ap (λ (l : List ℕ). get_or l 1 0) e)
+found-not-1 (flat (suc (suc p)) q e f g) = omega arith
+found-not-1 (rising zero q z e f g) = omega (arith, ap (λ (l : List ℕ). get_or l 1 0) e)
+found-not-1 (rising (suc p) q z e f g) = omega arith
+
+-- what is stored on, and back
+stored-on : stored 1 0 (Move.Swaps 3 1) (1 ∷ 1 ∷ 1 ∷ 0 ∷ 0 ∷ []) ≡ 1 ∷ 0 ∷ 1 ∷ 1 ∷ 0 ∷ []
+stored-on = refl
+
+stored-back : stored 0 1 (Move.Swaps 3 1) (1 ∷ 0 ∷ 1 ∷ 1 ∷ 0 ∷ []) ≡ 1 ∷ 1 ∷ 1 ∷ 0 ∷ 0 ∷ []
+stored-back = refl
+
+leads-11010 : Leads next applied (1 ∷ 1 ∷ 0 ∷ 1 ∷ 0 ∷ []) (Move.Dips 2 3)
+leads-11010 = plans-11010
+
+leads-elsewhere : Leads next applied (1 ∷ 1 ∷ 0 ∷ 1 ∷ 0 ∷ []) (Move.Dips 3 3) → ⊥
+leads-elsewhere = makes-10001
+
+-- the walk on goes by steps; standing still does not
+goes-on : Goes next steps worked
+goes-on = goes_on
+
+standing-still : Goes next (λ k b. b) (λ k b. 0) → ⊥
+standing-still g =
+    omega (arith, ap (λ (l : List ℕ). get_or l 1 0) (g.goes 0 (1 ∷ 0 ∷ 1 ∷ 0 ∷ 1 ∷ []) ∙ next-10101))

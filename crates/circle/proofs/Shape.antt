@@ -1,5 +1,4 @@
 -- A list of beats as ones, then zeros, then a 1 and the rest.
---     ups p c, downs q c          p ones, or q zeros, in front of c
 --     View, view                  a list that plays is ones and zeros, or has a 1 after its first zeros
 --     plays-shape, shape-plays    whether such a list plays, by how many ones and zeros it starts with
 --     shape-.., get-..            counts, lengths and beats by the shape
@@ -15,14 +14,7 @@ use lib.ListN.{length, get_or}
 use Rattle.schedule.specs.Schedule.{ones, zeros}
 use Rattle.schedule.proofs.Hand.{plays}
 use Rattle.circle.specs.Step.{top}
-
-abbrev pub ups : ℕ → List ℕ → List ℕ
-ups zero c = c
-ups (suc p) c = 1 ∷ ups p c
-
-abbrev pub downs : ℕ → List ℕ → List ℕ
-downs zero c = c
-downs (suc q) c = 0 ∷ downs q c
+pub use Rattle.circle.specs.Found.{ups, downs}
 
 pub data View : List ℕ → Type 0 where
   none : (p q : ℕ) → View (ups p (downs q []))

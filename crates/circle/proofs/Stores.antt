@@ -1,5 +1,5 @@
 -- The step by stores: y is the leftmost 0, x the 1 of the leftmost 0 followed by 1.
---     Found, find, found-order  what the two scans of the step find, by the shape
+--     find, found-order         what the two scans of the step find, by the shape
 --     set-ups, set-downs        a store behind ones, or behind zeros
 --     behind                    the beat after the found 1, by the shape
 --     plan-stays, plan-alone, plan-turns, plan-swaps, plan-dips     each plan of the code is the rule's next form
@@ -18,6 +18,7 @@ use Rattle.circle.specs.declared.Move.{Move}
 use Rattle.circle.specs.Step.{next}
 use Rattle.circle.specs.Walk.{changed}
 use Rattle.circle.specs.Plan.{Form, Inside, Plans, applied, changes}
+pub use Rattle.circle.specs.Found.{Found, flat, rising}
 use Rattle.circle.proofs.Shape.{
   ups,
   downs,
@@ -59,11 +60,6 @@ skips-downs p q c n =
           n (omega (arith, shape-length p q c))
           (sym (get-ups p q (p + q) (downs q c) refl ∙ get-downs q 0 q c (omega arith)) ∙ e);
     }
-
-pub data Found (b : List ℕ) (y x : ℕ) : Type 0 where
-  flat : (p q : ℕ) → b ≡ ups p (downs q []) → y ≡ p → x ≡ p + q → Found b y x
-  rising : (p q : ℕ) (z : List ℕ) → b ≡ ups (suc p) (downs (suc q) (1 ∷ z)) → y ≡ suc p → x ≡ suc p + suc q
-      → Found b y x
 
 find-view : {b : List ℕ} (y x : ℕ) → View b → plays 0 b ≡ true → Skips b 0 1 y → Skips b y 0 x → Found b y x
 unfolding plays

@@ -5,9 +5,8 @@
 --     next_answer, next_left     of one step: the changed beats, and the next form
 --     run_answer, run_left       of a run of k steps: the changed beats of them all, and the form k steps on [D3g]
 use Rattle.std.specs.Prelude.{List, [], ◌∷◌, ◌++◌, ℕ, ltb}
-use Rattle.refusal.specs.declared.Answer.{Answer}
 use Rattle.refusal.specs.declared.Refusal.TheVariants.{RunTooLong}
-use Rattle.refusal.specs.Answer.{answer, left}
+use Rattle.refusal.specs.Answer.{Answer, answer, left}
 use Rattle.refusal.specs.Rows.{Row, ◌⇒◌, judge}
 use Rattle.schedule.specs.Check.{check_rows, checked}
 use Rattle.circle.specs.Step.{next}

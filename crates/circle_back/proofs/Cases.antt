@@ -5,8 +5,8 @@ use mathlib.Core.Path.{◌≡◌, refl, ap}
 use Prim.Native.Nat.{ℕ}
 use native.Mathlib.Omega.{arith}
 use lib.ListN.{get_or}
+use Rattle.std.proofs.Common.{Ok, Err}
 use Rattle.bounded.specs.Bounded.{every, first_from}
-use Rattle.refusal.specs.declared.Answer.{Answer}
 use Rattle.refusal.specs.declared.Refusal.TheVariants.{EmptyHand, RunTooLong}
 use Rattle.schedule.specs.Schedule.{ones, zeros, is_schedule}
 use Rattle.circle.specs.declared.Move.{Move}
@@ -41,11 +41,11 @@ past_the_end : Undoes (1 ∷ 1 ∷ []) (Move.Swaps 2 1) → ⊥
 past_the_end p = omega (arith, p.inside.0)
 
 -- what the calls answer and leave: 10101, four beats back to 11010, and 1001, which has nothing in hand at place 2
-previous-answers-4 : previous_answer 3 2 (1 ∷ 0 ∷ 1 ∷ 0 ∷ 1 ∷ []) ≡ Answer.Value 4
+previous-answers-4 : previous_answer 3 2 (1 ∷ 0 ∷ 1 ∷ 0 ∷ 1 ∷ []) ≡ Ok 4
 unfolding previous unshift after_found found has01 first_from ones zeros changed
 previous-answers-4 = refl
 
-previous-refuses-5 : previous_answer 2 2 (1 ∷ 0 ∷ 0 ∷ 1 ∷ []) ≡ Answer.Refused (EmptyHand 2)
+previous-refuses-5 : previous_answer 2 2 (1 ∷ 0 ∷ 0 ∷ 1 ∷ []) ≡ Err (EmptyHand 2)
 unfolding first_from ones zeros
 previous-refuses-5 = refl
 
@@ -58,11 +58,11 @@ unfolding first_from ones zeros
 previous-leaves-1001 = refl
 
 -- one step back from 10101, two from 11100, and one step too many for a run
-run-back-answers-4 : run_back_answer 3 2 (1 ∷ 0 ∷ 1 ∷ 0 ∷ 1 ∷ []) 1 ≡ Answer.Value 4
+run-back-answers-4 : run_back_answer 3 2 (1 ∷ 0 ∷ 1 ∷ 0 ∷ 1 ∷ []) 1 ≡ Ok 4
 unfolding previous unshift after_found found has01 first_from ones zeros steps_back changed worked_back
 run-back-answers-4 = refl
 
-run-back-refuses-13 : run_back_answer 1 0 (1 ∷ []) 65536 ≡ Answer.Refused RunTooLong
+run-back-refuses-13 : run_back_answer 1 0 (1 ∷ []) 65536 ≡ Err RunTooLong
 unfolding first_from ones zeros
 run-back-refuses-13 = refl
 

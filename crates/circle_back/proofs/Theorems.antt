@@ -9,8 +9,8 @@
 use mathlib.Core.List.{List}
 use mathlib.Core.Path.{◌≡◌, refl, ◌∙◌, ap, sym}
 use Prim.Native.Nat.{ℕ}
-use Rattle.refusal.specs.declared.Verdict.{Verdict}
-use Rattle.refusal.specs.Answer.{answer, left}
+use Rattle.std.proofs.Common.{Ok, Err}
+use Rattle.refusal.specs.Answer.{Verdict, answer, left}
 use Rattle.refusal.specs.Rows.{judge}
 use Rattle.schedule.specs.Schedule.{Schedule}
 use Rattle.schedule.specs.Check.{checked}
@@ -21,7 +21,7 @@ use Rattle.circle.specs.Back.{previous, steps_back, worked_back}
 use Rattle.circle.specs.Answers.{run_rows, next_answer, next_left, run_answer, run_left}
 use Rattle.circle.proofs.Circle.{next-schedule, steps-schedule}
 use Rattle.circle.proofs.Work.{changed-sym}
-use Rattle.circle.proofs.Forms.{run-taken, run-allowed}
+use Rattle.circle.proofs.Forms.{run-taken, run_allowed}
 use Rattle.circle.proofs.Backwards.{
   previous-next,
   next-previous,
@@ -40,21 +40,21 @@ module _ (judged : List ℕ → Verdict) (on back : List ℕ → List ℕ) (work
   abbrev lent : List ℕ
   lent = left (judged b) (on b) b
 
-  undone : (judged b ≡ Verdict.Accepted
-      → (judged (on b) ≡ Verdict.Accepted) × (back (on b) ≡ b) × (unwork (on b) ≡ work b))
+  undone : (judged b ≡ Ok tt
+      → (judged (on b) ≡ Ok tt) × (back (on b) ≡ b) × (unwork (on b) ≡ work b))
       → (answer (judged lent) (unwork lent) ≡ answer (judged b) (work b)) × (left (judged lent) (back lent) lent ≡ b)
   undone undoes = by (judged b) refl
     where
       by : (v : Verdict) → judged b ≡ v
           → (answer (judged lent) (unwork lent) ≡ answer (judged b) (work b))
           × (left (judged lent) (back lent) lent ≡ b)
-      by Verdict.Accepted e = let u = undoes e in rw e (rw (u.0, u.2), rw u.0 u.1)
-      by (Verdict.Refused why) e = rw e (rw e, rw e)
+      by (Ok unit) e = let u = undoes e in rw e (rw (u.0, u.2), rw u.0 u.1)
+      by (Err why) e = rw e (rw e, rw e)
 
 module _ (t s : ℕ) (b : List ℕ) where
   -- a form of the same counts as an accepted schedule is accepted
-  again : (c : List ℕ) → checked t s b ≡ Verdict.Accepted → (Schedule t s b → Schedule t s c)
-      → checked t s c ≡ Verdict.Accepted
+  again : (c : List ℕ) → checked t s b ≡ Ok tt → (Schedule t s b → Schedule t s c)
+      → checked t s c ≡ Ok tt
   again c e keeps = let right = accepted-schedule t s b e in schedule-accepted t s c right.0 (keeps right.1)
 
   pub next-undone : (previous_answer t s (next_left t s b) ≡ next_answer t s b)
@@ -76,13 +76,13 @@ module _ (t s : ℕ) (b : List ℕ) where
 
   module _ (k : ℕ) where
     -- the same of a run
-    run-again : (c : List ℕ) → judge (run_rows t s b k) ≡ Verdict.Accepted → (Schedule t s b → Schedule t s c)
-        → judge (run_rows t s c k) ≡ Verdict.Accepted
+    run-again : (c : List ℕ) → judge (run_rows t s b k) ≡ Ok tt → (Schedule t s b → Schedule t s c)
+        → judge (run_rows t s c k) ≡ Ok tt
     run-again c e keeps =
-        let allowed = run-allowed t s b k e in run-taken t s c k (again c allowed.0 keeps) allowed.1
+        let allowed = run_allowed t s b k e in run-taken t s c k (again c allowed.0 keeps) allowed.1
 
-    run-form : judge (run_rows t s b k) ≡ Verdict.Accepted → Schedule t s b
-    run-form e = (accepted-schedule t s b (run-allowed t s b k e).0).1
+    run-form : judge (run_rows t s b k) ≡ Ok tt → Schedule t s b
+    run-form e = (accepted-schedule t s b (run_allowed t s b k e).0).1
 
     pub run-undone :
         (run_back_answer t s (run_left t s b k) k ≡ run_answer t s b k) × (run_back_left t s (run_left t s b k) k ≡ b)

@@ -1,7 +1,6 @@
 -- The step back by stores: y is the leftmost 0, x the beat after the zeros there; v and u are the same of what follows
 -- the second beat.
 --     Came, came            a schedule by its second beat: ones alone; two ones and zeros; or 1, 0 and a schedule
---     came-order            where the places lie: x is not before y, and not past the end
 --     Second, rest-form     1, 0 and a schedule that is not empty, where the second beat is a 0 and not the last
 --     undo-turn, undo-dip, undo-plain, undo-level, undo-low, undo-alone     each plan of the code leaves the previous
 --                           form
@@ -72,12 +71,6 @@ came {b} {y} {x} f (rising p q z e ey ex) =
         let one = alone q (1 ∷ z) o in
         second (1 ∷ z) (e ∙ ap (λ (k : ℕ). 1 ∷ 0 ∷ downs k (1 ∷ z)) one.0) one.1 ey (omega (arith, one.0))
     by (suc p) e ey ex o = low p q (1 ∷ z) e (rise z) ey ex
-
-pub came-order : {b : List ℕ} {y x : ℕ} → Came b y x → (y ≤ x) × (x ≤ length b)
-came-order (plain p e ey ex) = (omega arith, omega (arith, ap length e, shape-length p 0 []))
-came-order (low p q z e ends ey ex) =
-    (omega arith, omega (arith, ap length e, shape-length (suc (suc p)) (suc q) z))
-came-order (second d e o ey ex) = (omega arith, omega (arith, ap length e))
 
 -- stores, by the shape
 unswapped : (p q : ℕ) (z : List ℕ)

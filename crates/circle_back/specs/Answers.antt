@@ -4,8 +4,7 @@
 --     run_back_answer, run_back_left   of a run of k steps back: the changed beats of them all, and the form k steps
 --                                      back [V12]
 use Rattle.std.specs.Prelude.{List, ℕ}
-use Rattle.refusal.specs.declared.Answer.{Answer}
-use Rattle.refusal.specs.Answer.{answer, left}
+use Rattle.refusal.specs.Answer.{Answer, answer, left}
 use Rattle.refusal.specs.Rows.{judge}
 use Rattle.schedule.specs.Check.{checked}
 use Rattle.circle.specs.Walk.{changed}

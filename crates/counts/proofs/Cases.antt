@@ -3,9 +3,8 @@
 use mathlib.Core.Path.{◌≡◌, refl}
 use Prim.Native.Nat.{suc}
 use native.Mathlib.Omega.{arith}
-use Rattle.refusal.specs.declared.Answer.{Answer}
+use Rattle.std.proofs.Common.{Ok, Err}
 use Rattle.refusal.specs.declared.Refusal.TheVariants.{TooManyTasks, MoreDownThanUp}
-use Rattle.refusal.specs.declared.Verdict.{Verdict}
 use Rattle.refusal.specs.Rows.{judge}
 use Rattle.triangle.specs.Count.{N, largest}
 use Rattle.counts.specs.Counts.{Allowed, count_rows, counting}
@@ -21,18 +20,18 @@ more-down-2-3 : Allowed 2 3 → ⊥
 more-down-2-3 a = omega (arith, a.1)
 
 -- the same of their order: 1 is tried before 2
-rows-largest : judge (count_rows largest largest) ≡ Verdict.Accepted
+rows-largest : judge (count_rows largest largest) ≡ Ok tt
 rows-largest = refl
 
-rows-200-201 : judge (count_rows 200 201) ≡ Verdict.Refused TooManyTasks
+rows-200-201 : judge (count_rows 200 201) ≡ Err TooManyTasks
 rows-200-201 = refl
 
-rows-2-3 : judge (count_rows 2 3) ≡ Verdict.Refused MoreDownThanUp
+rows-2-3 : judge (count_rows 2 3) ≡ Err MoreDownThanUp
 rows-2-3 = refl
 
-counting-3-2 : counting 3 2 ≡ Answer.Value 5
+counting-3-2 : counting 3 2 ≡ Ok 5
 unfolding N
 counting-3-2 = refl
 
-counting-2-3 : counting 2 3 ≡ Answer.Refused MoreDownThanUp
+counting-2-3 : counting 2 3 ≡ Err MoreDownThanUp
 counting-2-3 = refl

@@ -8,10 +8,9 @@
 use mathlib.Core.Path.{◌≡◌, ap}
 use Prim.Native.Nat.{ℕ, ◌+◌, ◌≤◌, ◌<◌}
 use native.Mathlib.Omega.{arith}
-use Rattle.refusal.specs.declared.Answer.{Answer}
+use Rattle.std.proofs.Common.{Ok, Err}
 use Rattle.refusal.specs.declared.Refusal.TheVariants.{TooManyTasks, MoreDownThanUp}
-use Rattle.refusal.specs.declared.Verdict.{Verdict}
-use Rattle.refusal.specs.Answer.{answer}
+use Rattle.refusal.specs.Answer.{Verdict, answer}
 use Rattle.triangle.specs.Count.{N, largest, most_beats}
 use Rattle.counts.specs.Counts.{Allowed, counting}
 use Rattle.counts.proofs.Sizes.{too_many, more-down, allowed-counts}
@@ -20,11 +19,11 @@ module _ (t s : ℕ) where
   pub beats-at-most : Allowed t s → t + s ≤ most_beats
   beats-at-most a = omega (arith, a)
 
-  pub count-forms : Allowed t s → counting t s ≡ Answer.Value (N t s)
+  pub count-forms : Allowed t s → counting t s ≡ Ok (N t s)
   count-forms a = ap (λ (v : Verdict). answer v (N t s)) (allowed-counts t s a)
 
-  pub count-too-many : largest < t → counting t s ≡ Answer.Refused TooManyTasks
+  pub count-too-many : largest < t → counting t s ≡ Err TooManyTasks
   count-too-many h = ap (λ (v : Verdict). answer v (N t s)) (too_many t s h)
 
-  pub count-more-down : t ≤ largest → t < s → counting t s ≡ Answer.Refused MoreDownThanUp
+  pub count-more-down : t ≤ largest → t < s → counting t s ≡ Err MoreDownThanUp
   count-more-down h k = ap (λ (v : Verdict). answer v (N t s)) (more-down t s h k)

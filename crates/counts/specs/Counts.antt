@@ -3,9 +3,8 @@
 --     count_rows    the refusals that a pair of counts can get, in their order [R10]
 --     counting      what a count of forms answers: N(t, s), or the refusal
 use Rattle.std.specs.Prelude.{List, [], ◌∷◌, ℕ, ◌≤◌, ltb}
-use Rattle.refusal.specs.declared.Answer.{Answer}
 use Rattle.refusal.specs.declared.Refusal.TheVariants.{TooManyTasks, MoreDownThanUp}
-use Rattle.refusal.specs.Answer.{answer}
+use Rattle.refusal.specs.Answer.{Answer, answer}
 use Rattle.refusal.specs.Rows.{Row, ◌⇒◌, judge}
 use Rattle.triangle.specs.Count.{N, largest}
 

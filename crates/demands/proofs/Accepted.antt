@@ -15,10 +15,10 @@ use native.Mathlib.Omega.{arith}
 use borrow.Author.Tests.{ltb-false}
 use lib.Dec.{eqb, ltb}
 use lib.ListN.{length}
+use Rattle.std.proofs.Common.{Ok}
 use Rattle.form.specs.Answers.{number_rows, sheet_verdict}
 use Rattle.refusal.specs.declared.Refusal.TheVariants.{UnknownKind, NoRoom, RunTooLong, NotClosed}
-use Rattle.refusal.specs.declared.Verdict.{Verdict}
-use Rattle.refusal.specs.Answer.{answer, verdict}
+use Rattle.refusal.specs.Answer.{Verdict, answer, verdict}
 use Rattle.refusal.specs.Rows.{◌⇒◌, judge}
 use Rattle.refusal.proofs.Rows.{judge-front, judge-back}
 use Rattle.refusal.proofs.Theorems.{verdict-answer, accepted-none}
@@ -110,59 +110,59 @@ use Rattle.demands.specs.Demands.{
   cut_record,
 }
 
-pub taken : (v : Verdict) (n : ℕ) → Verdict.Accepted ≡ verdict (answer v n) → v ≡ Verdict.Accepted
+pub taken : (v : Verdict) (n : ℕ) → (Ok tt) ≡ verdict (answer v n) → v ≡ Ok tt
 taken v n e = sym (e ∙ verdict-answer v n)
 
-run-checked : (t s : ℕ) (b : List ℕ) (k : ℕ) → judge (run_rows t s b k) ≡ Verdict.Accepted
-    → checked t s b ≡ Verdict.Accepted
+run-checked : (t s : ℕ) (b : List ℕ) (k : ℕ) → judge (run_rows t s b k) ≡ Ok tt
+    → checked t s b ≡ Ok tt
 run-checked t s b k e = judge-front (check_rows t s b) ((ltb most_steps k ⇒ RunTooLong) ∷ []) e
 
-move-checked : (way : Move) (t s : ℕ) (b : List ℕ) → Verdict.Accepted ≡ verdict (move_answer way t s b)
-    → checked t s b ≡ Verdict.Accepted
+move-checked : (way : Move) (t s : ℕ) (b : List ℕ) → (Ok tt) ≡ verdict (move_answer way t s b)
+    → checked t s b ≡ Ok tt
 move-checked next t s b e = taken _ _ e
 move-checked previous t s b e = taken _ _ e
 move-checked (run k) t s b e = run-checked t s b k (taken _ _ e)
 move-checked (run-back k) t s b e = run-checked t s b k (taken _ _ e)
 
-write_checked : (kind t s : ℕ) (b out : List ℕ) → judge (write_rows kind t s b out) ≡ Verdict.Accepted
-    → checked t s b ≡ Verdict.Accepted
+write_checked : (kind t s : ℕ) (b out : List ℕ) → judge (write_rows kind t s b out) ≡ Ok tt
+    → checked t s b ≡ Ok tt
 write_checked kind t s b out e =
     let known = (is_unwritten (layout_of kind) ⇒ UnknownKind) ∷ [] in
     let bytes = record_of kind t s b in
     judge-front (check_rows t s b) (room_row bytes out ∷ []) (judge-back known (known_rows t s b bytes out) e)
 
-form-counts : (t s n : ℕ) → judge (number_rows t s n) ≡ Verdict.Accepted → Allowed t s
+form-counts : (t s n : ℕ) → judge (number_rows t s n) ≡ Ok tt → Allowed t s
 form-counts t s n e = let a = number-allowed t s n e in (a.0, a.1)
 
-sheet-number : (t s n : ℕ) (sheet : List ℕ) (column : ℕ) → sheet_verdict t s n sheet column ≡ Verdict.Accepted
-    → judge (number_rows t s n) ≡ Verdict.Accepted
+sheet-number : (t s n : ℕ) (sheet : List ℕ) (column : ℕ) → sheet_verdict t s n sheet column ≡ Ok tt
+    → judge (number_rows t s n) ≡ Ok tt
 sheet-number t s n sheet column e =
     judge-front (number_rows t s n) ((ltb (length sheet) (column + t + s) ⇒ NoRoom) ∷ []) e
 
-tree-sized : {n : ℕ} {b l r p x y z : List ℕ} (v : Verdict) → Verdict.Accepted ≡ v → Treed n b l r p v x y z
+tree-sized : {n : ℕ} {b l r p x y z : List ℕ} (v : Verdict) → (Ok tt) ≡ v → Treed n b l r p v x y z
     → ((n ≤ largest) × (length b ≡ n + n) × (length l ≡ n) × (length r ≡ n) × (length p ≡ n)) × Schedule n n b
 tree-sized {n} {b} {l} {r} {p} v e (filled a q) = tree-accepts n b l r p a
 tree-sized v e (kept a) = let z : ◌≡◌ {A = ℕ} 0 1 = cc in absurd (omega arith)
 
-back-sized : {n : ℕ} {l r p b c : List ℕ} (v : Verdict) → Verdict.Accepted ≡ v → Untreed n l r p b v c
+back-sized : {n : ℕ} {l r p b c : List ℕ} (v : Verdict) → (Ok tt) ≡ v → Untreed n l r p b v c
     → (n ≤ largest) × (length b ≡ n + n) × (length l ≡ n) × (length r ≡ n) × (length p ≡ n)
 back-sized {n} {l} {r} {p} {b} v e (found a q) = sizes-right n (length b) (length l) (length r) (length p) a
 back-sized v e (none a q) = let z : ◌≡◌ {A = ℕ} 0 1 = cc in absurd (omega arith)
 back-sized v e (unfit a) = let z : ◌≡◌ {A = ℕ} 0 1 = cc in absurd (omega arith)
 
-outline-checked : (t s : ℕ) (b text : List ℕ) → judge (outline_rows t s b (length text)) ≡ Verdict.Accepted
-    → checked t s b ≡ Verdict.Accepted
+outline-checked : (t s : ℕ) (b text : List ℕ) → judge (outline_rows t s b (length text)) ≡ Ok tt
+    → checked t s b ≡ Ok tt
 outline-checked t s b text e =
     judge-front (check_rows t s b) ((not (eqb t s) ⇒ NotClosed) ∷ []) (room-closed t s b (length text) e).0
 
-outline-sized : {n : ℕ} {text b c : List ℕ} (v : Verdict) → Verdict.Accepted ≡ v → Back n text b v c
+outline-sized : {n : ℕ} {text b c : List ℕ} (v : Verdict) → (Ok tt) ≡ v → Back n text b v c
     → (n ≤ largest) × (length b ≡ n + n)
 outline-sized {n} {text} {b} v e (back.found o a q i) = back-sizes.sizes-right n (length b) a
 outline-sized v e (back.none a q w) = let z : ◌≡◌ {A = ℕ} 0 1 = cc in absurd (omega arith)
 outline-sized v e (back.unfit a) = let z : ◌≡◌ {A = ℕ} 0 1 = cc in absurd (omega arith)
 
 pub accepted-counts : {c : Call} {t s : ℕ} (m : List ℕ) (x : List (List ℕ)) → CountsOf c t s
-    → Gives c Verdict.Accepted m x → Allowed t s
+    → Gives c (Ok tt) m x → Allowed t s
 accepted-counts m x (of-count {t} {s}) g = counts-allowed t s (taken _ _ g.0.0)
 accepted-counts m x (of-check {t} {s} {b}) g = (accepted-schedule t s b (sym g.0.0)).0
 accepted-counts m x (of-move {way} {t} {s} {b}) g = (accepted-schedule t s b (move-checked way t s b g.0.0)).0
@@ -183,7 +183,7 @@ accepted-counts m x (of-write {kind} {t} {s} {b} {out}) g =
     (accepted-schedule t s b (write_checked kind t s b out (taken _ _ g.0.0))).0
 
 pub accepted-beats : {c : Call} {t s : ℕ} {b : List ℕ} (m : List ℕ) (x : List (List ℕ)) → CountsOf c t s → BeatsOf c b
-    → Gives c Verdict.Accepted m x → Schedule t s b
+    → Gives c (Ok tt) m x → Schedule t s b
 accepted-beats m x (of-check {t} {s} {b}) in-check g = (accepted-schedule t s b (sym g.0.0)).1
 accepted-beats m x (of-move {way} {t} {s} {b}) in-move g =
     (accepted-schedule t s b (move-checked way t s b g.0.0)).1
@@ -215,7 +215,7 @@ asked-counts in-outline = (_, _, of-outline)
 asked-counts in-write = (_, _, of-write)
 
 pub accepted-owed : {c : Call} {l : List ℕ} {n : ℕ} (m : List ℕ) (x : List (List ℕ)) → Owed c l n
-    → Gives c Verdict.Accepted m x → length l ≡ n
+    → Gives c (Ok tt) m x → length l ≡ n
 accepted-owed m x (beats cs bs) g = (accepted-beats m x cs bs g).size
 accepted-owed m x (formed {t} {s} {n} {out}) g = (form-allowed t s n out (sym g.0.0)).1
 accepted-owed m x left g = (tree-sized _ refl g.3).0.2
@@ -227,7 +227,7 @@ accepted-owed m x from-parent g = (back-sized _ refl g.1).4
 accepted-owed m x schedule g = (back-sized _ refl g.1).1
 accepted-owed m x outlined g = (outline-sized _ refl g.1).1
 
-pub call-refused : (c : Call) (m : List ℕ) (x : List (List ℕ)) → Wrong c → Gives c Verdict.Accepted m x → ⊥
+pub call-refused : (c : Call) (m : List ℕ) (x : List (List ℕ)) → Wrong c → Gives c (Ok tt) m x → ⊥
 call-refused c m x (counts-above cs h) g = omega (arith, (accepted-counts m x cs g).0)
 call-refused c m x (more-down cs h) g = omega (arith, (accepted-counts m x cs g).1)
 call-refused c m x (bad-beat bs k h w) g = omega (arith, (accepted-beats m x (asked-counts bs).2 bs g).beats k h)
@@ -245,7 +245,7 @@ call-refused c m x (no-form-in-record {src} {out} {at} {by} k h) g =
     omega (
       arith,
       above,
-      (numbered-facts at src by (subst (λ (j : Layout). judge (kind_rows j src) ≡ Verdict.Accepted) k rows)).2,
+      (numbered-facts at src by (subst (λ (j : Layout). judge (kind_rows j src) ≡ Ok tt) k rows)).2,
     )
 call-refused c m x (sheet-short {t} {s} {n} {sheet} {column} h) g =
     let row = ltb (length sheet) (column + t + s) ⇒ NoRoom in
@@ -270,10 +270,10 @@ call-refused c m x (size-tiny {src} {out} h) g =
     omega (arith, (read-facts (length out) src (sym (g.0.0 ∙ told-verdict _ _ _ _ _))).2)
 call-refused c m x (size-numbered {src} {out} {at} {by} k d) g =
     let rows = (read-facts (length out) src (sym (g.0.0 ∙ told-verdict _ _ _ _ _))).4 in
-    d (numbered-facts at src by (subst (λ (j : Layout). judge (kind_rows j src) ≡ Verdict.Accepted) k rows)).0
+    d (numbered-facts at src by (subst (λ (j : Layout). judge (kind_rows j src) ≡ Ok tt) k rows)).0
 call-refused c m x (size-beaten {src} {out} {at} k d) g =
     let facts = read-facts (length out) src (sym (g.0.0 ∙ told-verdict _ _ _ _ _)) in
-    let fit = beaten-facts at src (subst (λ (j : Layout). judge (kind_rows j src) ≡ Verdict.Accepted) k facts.4) in
+    let fit = beaten-facts at src (subst (λ (j : Layout). judge (kind_rows j src) ≡ Ok tt) k facts.4) in
     let size = body-size src at fit.reaches (whole_long src facts.1).1 in
     let exact : long src ≡ at + bytes_for (ups_at at src + downs_at at src) =
     omega (arith, size, fit.exact, fit.reaches) in

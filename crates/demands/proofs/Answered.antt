@@ -7,8 +7,9 @@ use Prim.Native.Nat.{ℕ, zero, suc, ◌+◌, ◌≤◌}
 use native.Mathlib.Decide.{dec_lt}
 use native.Mathlib.Omega.{arith}
 use lib.ListN.{length}
+use Rattle.std.proofs.Common.{Ok, Err}
 use Rattle.refusal.specs.declared.Refusal.TheVariants.{NoSuchTables, NoSuchOutline}
-use Rattle.refusal.specs.declared.Verdict.{Verdict}
+use Rattle.refusal.specs.Answer.{Verdict}
 use Rattle.refusal.specs.Rows.{judge}
 use Rattle.tree.specs.Table.{tree_rows, lent_rows, filled, kept}
 use Rattle.tree.proofs.Theorems.{closed-has, tree-accepts}
@@ -75,38 +76,38 @@ call-answered (form-on-sheet t s n sheet column) silent = silent _ _ _ ((refl, r
 call-answered (tree n b l r p) silent = by (judge (tree_rows n b l r p)) refl
   where
     by : (v : Verdict) → judge (tree_rows n b l r p) ≡ v → ⊥
-    by Verdict.Accepted e =
+    by (Ok unit) e =
         let tables = closed-has (tree-accepts n b l r p e).1 in
-        silent Verdict.Accepted [] (b ∷ tables.0 ∷ tables.1 ∷ tables.2 ∷ [])
+        silent (Ok tt) [] (b ∷ tables.0 ∷ tables.1 ∷ tables.2 ∷ [])
         (tables.0, tables.1, tables.2, filled e tables.3, refl, refl)
-    by (Verdict.Refused why) e = silent (Verdict.Refused why) [] (b ∷ l ∷ r ∷ p ∷ []) (l, r, p, kept e, refl, refl)
+    by (Err why) e = silent (Err why) [] (b ∷ l ∷ r ∷ p ∷ []) (l, r, p, kept e, refl, refl)
 call-answered (schedule-of-tree n l r p out) silent = by (judge (lent_rows n out l r p)) refl
   where
     by : (v : Verdict) → judge (lent_rows n out l r p) ≡ v → ⊥
-    by Verdict.Accepted e =
-        silent (Verdict.Refused NoSuchTables) [] (l ∷ r ∷ p ∷ out ∷ []) (
+    by (Ok unit) e =
+        silent (Err NoSuchTables) [] (l ∷ r ∷ p ∷ out ∷ []) (
           out,
-          none e (λ c has. silent Verdict.Accepted [] (l ∷ r ∷ p ∷ c ∷ []) (c, found e has, refl, refl)),
+          none e (λ c has. silent (Ok tt) [] (l ∷ r ∷ p ∷ c ∷ []) (c, found e has, refl, refl)),
           refl,
           refl,
         )
-    by (Verdict.Refused why) e = silent (Verdict.Refused why) [] (l ∷ r ∷ p ∷ out ∷ []) (out, unfit e, refl, refl)
+    by (Err why) e = silent (Err why) [] (l ∷ r ∷ p ∷ out ∷ []) (out, unfit e, refl, refl)
 call-answered (outline t s b text) silent = silent _ _ _ ((refl, refl), refl)
 call-answered (schedule-of-outline n text out) silent = by (judge (back_rows n (length out))) refl
   where
     by : (v : Verdict) → judge (back_rows n (length out)) ≡ v → ⊥
-    by Verdict.Accepted e =
+    by (Ok unit) e =
         some-wrong n text (λ k wrong.
-        silent (Verdict.Refused (NoSuchOutline k)) [] (text ∷ out ∷ []) (
+        silent (Err (NoSuchOutline k)) [] (text ∷ out ∷ []) (
           out,
           outlined.none e
               (λ o size q.
-              silent Verdict.Accepted [] (text ∷ schedule o ∷ []) (schedule o, outlined.found o e size q, refl, refl))
+              silent (Ok tt) [] (text ∷ schedule o ∷ []) (schedule o, outlined.found o e size q, refl, refl))
               wrong,
           refl,
           refl,
         ))
-    by (Verdict.Refused why) e =
-        silent (Verdict.Refused why) [] (text ∷ out ∷ []) (out, outlined.unfit e, refl, refl)
+    by (Err why) e =
+        silent (Err why) [] (text ∷ out ∷ []) (out, outlined.unfit e, refl, refl)
 call-answered (read src out) silent = silent _ _ _ ((refl, refl), refl)
 call-answered (write kind t s b out) silent = silent _ _ _ ((refl, refl), refl)

@@ -4,9 +4,7 @@
 use mathlib.Core.List.{List, [], ◌∷◌}
 use mathlib.Core.Path.{◌≡◌, ◌∙◌, ap, sym}
 use Prim.Native.Nat.{ℕ}
-use Rattle.refusal.specs.declared.Answer.{Answer}
-use Rattle.refusal.specs.declared.Verdict.{Verdict}
-use Rattle.refusal.specs.Answer.{verdict, value}
+use Rattle.refusal.specs.Answer.{Verdict, Answer, verdict, value}
 use Rattle.counts.specs.Counts.{Allowed}
 use Rattle.schedule.proofs.Theorems.{schedule-accepted}
 use Rattle.circle.specs.Back as back

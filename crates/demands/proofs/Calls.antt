@@ -8,10 +8,9 @@ use mathlib.Core.Path.{◌≡◌, refl, ◌∙◌, ap, sym}
 use Prim.Native.Nat.{ℕ, zero, suc}
 use native.Mathlib.Omega.{arith}
 use lib.ListN.{length, get_or, take}
-use Rattle.refusal.specs.Answer.{answer, verdict, left}
-use Rattle.refusal.specs.declared.Answer.{Answer}
+use Rattle.std.proofs.Common.{Ok, Err}
+use Rattle.refusal.specs.Answer.{Verdict, Answer, answer, verdict, left}
 use Rattle.refusal.specs.declared.Refusal.{Refusal}
-use Rattle.refusal.specs.declared.Verdict.{Verdict}
 use Rattle.refusal.specs.Rows.{judge}
 use Rattle.refusal.proofs.Theorems.{verdict-answer}
 use Rattle.counts.specs.Counts.{counting}
@@ -33,7 +32,7 @@ use Rattle.outline_back.specs.Back.{Back}
 use Rattle.outline_back.specs.Back as outlined
 use Rattle.outline_back.proofs.Theorems.{back_one}
 use Rattle.record.specs.Record.{record_of, write_rows, write_answer, read_rows}
-use Rattle.record.specs.declared.reading.Reading.{Reading}
+use Rattle.record.specs.Parts.{Reading}
 use Rattle.reader.specs.Answers.{read_answer}
 use Rattle.record.specs.Parts as said
 use Rattle.reader.proofs.Verdicts.{told-verdict}
@@ -65,33 +64,33 @@ use Rattle.demands.specs.Calls.{
 }
 
 -- a refused call leaves what was lent
-still : {why : Refusal} (v : Verdict) → Verdict.Refused why ≡ v → (done lent : List ℕ) → left v done lent ≡ lent
-still Verdict.Accepted e done l = let z : ◌≡◌ {A = ℕ} 0 1 = cc in absurd (omega arith)
-still (Verdict.Refused why) e done l = refl
+still : {why : Refusal} (v : Verdict) → Err why ≡ v → (done lent : List ℕ) → left v done lent ≡ lent
+still (Ok unit) e done l = let z : ◌≡◌ {A = ℕ} 0 1 = cc in absurd (omega arith)
+still (Err why) e done l = refl
 
 -- and so does one that answers a number by its verdict, and works in one list
 stayed : {why : Refusal} {x : List (List ℕ)} (v : Verdict) (n : ℕ) (done b : List ℕ)
-    → Verdict.Refused why ≡ verdict (answer v n) → x ≡ left v done b ∷ [] → x ≡ b ∷ []
+    → Err why ≡ verdict (answer v n) → x ≡ left v done b ∷ [] → x ≡ b ∷ []
 stayed v n done b e f = f ∙ ap (λ (l : List ℕ). l ∷ []) (still v (e ∙ verdict-answer v n) done b)
 
-tree-kept : {n : ℕ} {b l r p x y z : List ℕ} {why : Refusal} (v : Verdict) → Verdict.Refused why ≡ v
+tree-kept : {n : ℕ} {b l r p x y z : List ℕ} {why : Refusal} (v : Verdict) → Err why ≡ v
     → Treed n b l r p v x y z → (x ≡ l) × (y ≡ r) × (z ≡ p)
 tree-kept v e (filled a q) = let z : ◌≡◌ {A = ℕ} 0 1 = cc in absurd (omega arith)
 tree-kept v e (kept a) = (refl, refl, refl)
 
-back-kept : {n : ℕ} {l r p b c : List ℕ} {why : Refusal} (v : Verdict) → Verdict.Refused why ≡ v → Untreed n l r p b v c
+back-kept : {n : ℕ} {l r p b c : List ℕ} {why : Refusal} (v : Verdict) → Err why ≡ v → Untreed n l r p b v c
     → c ≡ b
 back-kept v e (found a q) = let z : ◌≡◌ {A = ℕ} 0 1 = cc in absurd (omega arith)
 back-kept v e (none a q) = refl
 back-kept v e (unfit a) = refl
 
-outline-kept : {n : ℕ} {text b c : List ℕ} {why : Refusal} (v : Verdict) → Verdict.Refused why ≡ v → Back n text b v c
+outline-kept : {n : ℕ} {text b c : List ℕ} {why : Refusal} (v : Verdict) → Err why ≡ v → Back n text b v c
     → c ≡ b
 outline-kept v e (outlined.found o a q i) = let z : ◌≡◌ {A = ℕ} 0 1 = cc in absurd (omega arith)
 outline-kept v e (outlined.none a q w) = refl
 outline-kept v e (outlined.unfit a) = refl
 
-pub call-unchanged : (c : Call) (why : Refusal) (m : List ℕ) (x : List (List ℕ)) → Gives c (Verdict.Refused why) m x
+pub call-unchanged : (c : Call) (why : Refusal) (m : List ℕ) (x : List (List ℕ)) → Gives c (Err why) m x
     → x ≡ lent c
 call-unchanged (count t s) why m x g = g.1
 call-unchanged (check t s b) why m x g = g.1
@@ -110,18 +109,18 @@ call-unchanged (form t s n out) why m x g = g.1 ∙ ap (λ (l : List ℕ). l ∷
 call-unchanged (form-on-sheet t s n sheet column) why m x g =
     g.1 ∙ ap (λ (l : List ℕ). l ∷ []) (still _ g.0.0 _ sheet)
 call-unchanged (tree n b l r p) why m x g =
-    let same = tree-kept (Verdict.Refused why) refl g.3 in
+    let same = tree-kept (Err why) refl g.3 in
     g.5
     ∙ ap (λ (w : List ℕ). b ∷ w ∷ g.1 ∷ g.2 ∷ []) same.0
     ∙ ap (λ (w : List ℕ). b ∷ l ∷ w ∷ g.2 ∷ []) same.1
     ∙ ap (λ (w : List ℕ). b ∷ l ∷ r ∷ w ∷ []) same.2
 call-unchanged (schedule-of-tree n l r p out) why m x g =
-    g.3 ∙ ap (λ (w : List ℕ). l ∷ r ∷ p ∷ w ∷ []) (back-kept (Verdict.Refused why) refl g.1)
+    g.3 ∙ ap (λ (w : List ℕ). l ∷ r ∷ p ∷ w ∷ []) (back-kept (Err why) refl g.1)
 call-unchanged (outline t s b text) why m x g =
     let v = judge (outline_rows t s b (length text)) in
     g.1 ∙ ap (λ (w : List ℕ). b ∷ w ∷ []) (still v (g.0.0 ∙ verdict-answer v (length (printed b))) _ text)
 call-unchanged (schedule-of-outline n text out) why m x g =
-    g.3 ∙ ap (λ (w : List ℕ). text ∷ w ∷ []) (outline-kept (Verdict.Refused why) refl g.1)
+    g.3 ∙ ap (λ (w : List ℕ). text ∷ w ∷ []) (outline-kept (Err why) refl g.1)
 call-unchanged (read src out) why m x g =
     let v = judge (read_rows (length out) src) in
     g.1 ∙ ap (λ (w : List ℕ). src ∷ w ∷ []) (still v (g.0.0 ∙ told-verdict _ _ _ _ v) _ out)
@@ -130,9 +129,9 @@ call-unchanged (write kind t s b out) why m x g =
     g.1 ∙ ap (λ (w : List ℕ). b ∷ w ∷ []) (still v (g.0.0 ∙ verdict-answer v (length (record_of kind t s b))) _ out)
 
 -- a refused call answers 0
-no_value : (a : Answer) (why : Refusal) (m : List ℕ) → Says a (Verdict.Refused why) m → (i : ℕ) → get_or m i 0 ≡ 0
-no_value (Answer.Value n) why m q i = let z : ◌≡◌ {A = ℕ} 0 1 = let e = q.0 in cc in absurd (omega arith)
-no_value (Answer.Refused r) why m q i = ap (λ (l : List ℕ). get_or l i 0) q.1 ∙ zeros i
+no_value : (a : Answer) (why : Refusal) (m : List ℕ) → Says a (Err why) m → (i : ℕ) → get_or m i 0 ≡ 0
+no_value (Ok n) why m q i = let z : ◌≡◌ {A = ℕ} 0 1 = let e = q.0 in cc in absurd (omega arith)
+no_value (Err r) why m q i = ap (λ (l : List ℕ). get_or l i 0) q.1 ∙ zeros i
   where
     zeros : (i : ℕ) → ◌≡◌ {A = ℕ} (get_or (0 ∷ []) i 0) 0
     zeros zero = refl
@@ -141,7 +140,7 @@ no_value (Answer.Refused r) why m q i = ap (λ (l : List ℕ). get_or l i 0) q.1
 no-numbers : (m : List ℕ) → m ≡ [] → (i : ℕ) → get_or m i 0 ≡ 0
 no-numbers m e i = ap (λ (l : List ℕ). get_or l i 0) e
 
-pub call-silent : (c : Call) (why : Refusal) (m : List ℕ) (x : List (List ℕ)) → Gives c (Verdict.Refused why) m x
+pub call-silent : (c : Call) (why : Refusal) (m : List ℕ) (x : List (List ℕ)) → Gives c (Err why) m x
     → (i : ℕ) → get_or (silenced c m) i 0 ≡ 0
 call-silent (count t s) why m x g i = no_value (counting t s) why m g.0 i
 call-silent (check t s b) why m x g i = no-numbers m g.0.1 i
@@ -153,9 +152,9 @@ call-silent (explain t s b) why m x g i = by (checked t s b) g.0.0 g.0.1
     zeros zero = refl
     zeros (suc i) = refl
 
-    by : (v : Verdict) → Verdict.Refused why ≡ v → m ≡ numbers (unless-refused v (explanation_of b)) → get_or m i 0 ≡ 0
-    by Verdict.Accepted e f = let z : ◌≡◌ {A = ℕ} 0 1 = cc in absurd (omega arith)
-    by (Verdict.Refused r) e f = ap (λ (l : List ℕ). get_or l i 0) f ∙ zeros i
+    by : (v : Verdict) → Err why ≡ v → m ≡ numbers (unless-refused v (explanation_of b)) → get_or m i 0 ≡ 0
+    by (Ok unit) e f = let z : ◌≡◌ {A = ℕ} 0 1 = cc in absurd (omega arith)
+    by (Err r) e f = ap (λ (l : List ℕ). get_or l i 0) f ∙ zeros i
 call-silent (number t s b) why m x g i = no_value (number_answer t s b) why m g.0 i
 call-silent (form t s n out) why m x g i = no-numbers m g.0.1 i
 call-silent (form-on-sheet t s n sheet column) why m x g i = no-numbers m g.0.1 i
@@ -171,10 +170,10 @@ call-silent (read src out) why m x g i = by (read_answer src out) g.0.0 g.0.1
     zeros (suc (suc zero)) = refl
     zeros (suc (suc (suc i))) = refl
 
-    by : (a : Reading) → Verdict.Refused why ≡ said.verdict a
+    by : (a : Reading) → Err why ≡ said.verdict a
         → m ≡ said.t a ∷ said.s a ∷ said.number a ∷ said.consumed a ∷ [] → get_or (take 3 m) i 0 ≡ 0
-    by (Reading.Accepted o) e f = let z : ◌≡◌ {A = ℕ} 0 1 = cc in absurd (omega arith)
-    by (Reading.Refused r n) e f = ap (λ (l : List ℕ). get_or (take 3 l) i 0) f ∙ zeros i
+    by (Ok o) e f = let z : ◌≡◌ {A = ℕ} 0 1 = cc in absurd (omega arith)
+    by (Err u) e f = ap (λ (l : List ℕ). get_or (take 3 l) i 0) f ∙ zeros i
 call-silent (write kind t s b out) why m x g i = no_value (write_answer kind t s b out) why m g.0 i
 
 -- no second answer

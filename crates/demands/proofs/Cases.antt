@@ -7,14 +7,13 @@ use mathlib.Core.Path.{◌≡◌, refl, ap}
 use Prim.Native.Nat.{ℕ}
 use native.Mathlib.Omega.{arith}
 use lib.ListN.{get_or, replicate}
+use Rattle.std.proofs.Common.{Ok}
 use Rattle.bounded.specs.Bounded.{every, first_from}
 use Rattle.triangle.specs.Count.{N}
 use Rattle.schedule.specs.Schedule.{ones, zeros, is_schedule}
 use Rattle.circle.specs.Step.{shift, found, has01, moves_next, next}
 use Rattle.circle.specs.Walk.{steps, changed, worked}
 use Rattle.tree.proofs.Theorems.{has-closed}
-use Rattle.refusal.specs.declared.Answer.{Answer}
-use Rattle.refusal.specs.declared.Verdict.{Verdict}
 use Rattle.circle.specs.Step.{top}
 use Rattle.circle.proofs.Circle.{top-schedule}
 use Rattle.record.specs.Bytes.{low_first, value_of}
@@ -132,11 +131,11 @@ not-links : Holds (links (1 ∷ 0 ∷ 0 ∷ []) (0 ∷ []) (0 ∷ []) (0 ∷ [])
 not-links p = omega (arith, (has-closed p).size)
 
 -- a step from 110 changes two beats and leaves 101; a run of no step changes none
-moves-2 : move_answer call.next 2 1 (1 ∷ 1 ∷ 0 ∷ []) ≡ Answer.Value 2
+moves-2 : move_answer call.next 2 1 (1 ∷ 1 ∷ 0 ∷ []) ≡ Ok 2
 unfolding every first_from ones zeros is_schedule shift found has01 moves_next next changed
 moves-2 = refl
 
-moves-0 : move_answer (call.run 0) 2 1 (1 ∷ 1 ∷ 0 ∷ []) ≡ Answer.Value 0
+moves-0 : move_answer (call.run 0) 2 1 (1 ∷ 1 ∷ 0 ∷ []) ≡ Ok 0
 unfolding first_from ones zeros worked
 moves-0 = refl
 
@@ -162,18 +161,18 @@ silenced-read : silenced (read [] []) (1 ∷ 2 ∷ 3 ∷ 4 ∷ []) ≡ 1 ∷ 2 �
 silenced-read = refl
 
 -- an answer of 3 says 3 and no refusal
-says-3 : Says (Answer.Value 3) Verdict.Accepted (3 ∷ [])
+says-3 : Says (Ok 3) (Ok tt) (3 ∷ [])
 says-3 = (refl, refl)
 
-says-4 : Says (Answer.Value 3) Verdict.Accepted (4 ∷ []) → ⊥
+says-4 : Says (Ok 3) (Ok tt) (4 ∷ []) → ⊥
 says-4 p = let clash : ◌≡◌ {A = ℕ} 4 3 = ap (λ (l : List ℕ). get_or l 0 0) p.1 in omega arith
 
 -- a count of (2,1) gives 2, and one of (2,3) is not accepted
-gives-2 : Gives (count 2 1) Verdict.Accepted (2 ∷ []) []
+gives-2 : Gives (count 2 1) (Ok tt) (2 ∷ []) []
 unfolding N
 gives-2 = ((refl, refl), refl)
 
-gives_none : Gives (count 2 3) Verdict.Accepted (0 ∷ []) [] → ⊥
+gives_none : Gives (count 2 3) (Ok tt) (0 ∷ []) [] → ⊥
 gives_none p = omega (arith, (accepted-counts {t = 2} {s = 3} (0 ∷ []) [] of-count p).1)
 
 -- the counts and the beats of a call are its own, and a form has to be as long as its counts say
@@ -183,7 +182,7 @@ counts-2-1 = of-count
 counts-1-2 : CountsOf (count 2 1) 1 2 → ⊥
 counts-1-2 p = omega (arith, (accepted-counts {t = 1} {s = 2} (2 ∷ []) [] p gives-2).1)
 
-checks-1 : Gives (check 1 0 (1 ∷ [])) Verdict.Accepted [] ((1 ∷ []) ∷ [])
+checks-1 : Gives (check 1 0 (1 ∷ [])) (Ok tt) [] ((1 ∷ []) ∷ [])
 unfolding first_from ones zeros
 checks-1 = ((refl, refl), refl)
 

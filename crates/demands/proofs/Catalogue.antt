@@ -4,7 +4,7 @@
 use mathlib.Core.List.{List, [], ◌∷◌}
 use mathlib.Core.Path.{◌≡◌, refl, ap, sym, ◌∙◌, subst}
 use Prim.Native.Nat.{ℕ}
-use Rattle.refusal.specs.declared.Verdict.{Verdict}
+use Rattle.std.proofs.Common.{Ok}
 use Rattle.counts.specs.Counts.{Allowed}
 use Rattle.schedule.specs.Schedule.{Schedule}
 use Rattle.circle.specs.Step.{top}
@@ -12,7 +12,7 @@ use Rattle.circle.proofs.Circle.{top-schedule}
 use Rattle.number.specs.Number.{start, number_of}
 use Rattle.number.proofs.Numbers.{start-schedule}
 use Rattle.number.proofs.Theorems.{fewest-number, catalogue-number, top-number, start-number}
-use Rattle.record.specs.declared.reading.Reading.{Reading}
+use Rattle.record.specs.Parts.{Reading}
 use Rattle.record.specs.Parts as said
 use Rattle.reader.proofs.Earlier.{read-as-before}
 use Rattle.demands.specs.Calls.{number, Gives}
@@ -21,11 +21,11 @@ use Rattle.demands.proofs.Demands.{demands}
 
 -- the number that is given is that of the definitions, whichever way it is worked out
 given : (t s : ℕ) (b : List ℕ) → Allowed t s → Schedule t s b → {n : ℕ} → number_of t s b ≡ n
-    → Gives (number t s b) Verdict.Accepted (n ∷ []) (b ∷ [])
+    → Gives (number t s b) (Ok tt) (n ∷ []) (b ∷ [])
 given t s b a p e =
     let second = demands.second t s a in
     let answered = second.number-given b p in
-    subst (λ (m : ℕ). Gives (number t s b) Verdict.Accepted (m ∷ []) (b ∷ []))
+    subst (λ (m : ℕ). Gives (number t s b) (Ok tt) (m ∷ []) (b ∷ []))
     (fewest-number p answered.0 (second.number-fewest b answered.0 answered.1) ∙ e)
     answered.1
 

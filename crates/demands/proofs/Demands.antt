@@ -12,11 +12,10 @@ use native.Mathlib.Omega.{arith}
 use borrow.Author.Tests.{ltb-false}
 use lib.Dec.{ltb}
 use lib.ListN.{length, get_or}
+use Rattle.std.proofs.Common.{Ok}
 use Rattle.form.specs.Answers.{form_left}
-use Rattle.refusal.specs.declared.Answer.{Answer}
 use Rattle.refusal.specs.declared.Refusal.TheVariants.{RunTooLong}
-use Rattle.refusal.specs.declared.Verdict.{Verdict}
-use Rattle.refusal.specs.Answer.{answer, value, left}
+use Rattle.refusal.specs.Answer.{Verdict, answer, value, left}
 use Rattle.refusal.specs.Rows.{◌⇒◌, judge}
 use Rattle.refusal.proofs.Rows.{judge-back}
 use Rattle.refusal.proofs.Theorems.{accepted-none, refused-number}
@@ -56,10 +55,10 @@ demand-1 = record {
 }
 
 -- what an accepted call answers, and what it leaves
-pub accepts : (v : Verdict) → v ≡ Verdict.Accepted → (n : ℕ) → Answer.Value n ≡ answer v n
+pub accepts : (v : Verdict) → v ≡ Ok tt → (n : ℕ) → Ok n ≡ answer v n
 accepts v e n = ap (λ (x : Verdict). answer x n) (sym e)
 
-pub leaves : (v : Verdict) → v ≡ Verdict.Accepted → (done lent : List ℕ) → done ∷ [] ≡ left v done lent ∷ []
+pub leaves : (v : Verdict) → v ≡ Ok tt → (done lent : List ℕ) → done ∷ [] ≡ left v done lent ∷ []
 leaves v e done lent = ap (λ (x : Verdict). left x done lent ∷ []) (sym e)
 
 pub single : {x y : List ℕ} → ◌≡◌ {A = List (List ℕ)} (x ∷ []) (y ∷ []) → x ≡ y
@@ -67,7 +66,7 @@ single e = ap (λ (l : List (List ℕ)). get_or l 0 []) e
 
 module _ (t s : ℕ) (a : Allowed t s) where
   -- what an accepted number says
-  number-meant : (b : List ℕ) (n : ℕ) → Gives (number t s b) Verdict.Accepted (n ∷ []) (b ∷ [])
+  number-meant : (b : List ℕ) (n : ℕ) → Gives (number t s b) (Ok tt) (n ∷ []) (b ∷ [])
       → Schedule t s b × (n ≡ number_of t s b)
   number-meant b n g =
       let e = taken (checked t s b) (number_of t s b) g.0.0 in
@@ -76,7 +75,7 @@ module _ (t s : ℕ) (a : Allowed t s) where
       ((accepted-schedule t s b e).1, ap (λ (l : List ℕ). get_or l 0 0) said)
 
   -- a run that was taken is not too long
-  run_short : (b : List ℕ) (k : ℕ) → judge (run_rows t s b k) ≡ Verdict.Accepted → k ≤ most_steps
+  run_short : (b : List ℕ) (k : ℕ) → judge (run_rows t s b k) ≡ Ok tt → k ≤ most_steps
   run_short b k e =
       let row = (ltb most_steps k ⇒ RunTooLong) ∷ [] in
       ltb-false most_steps k (accepted-none row (judge-back (check_rows t s b) row e) _ (Memᴰ.head refl))
@@ -103,21 +102,21 @@ module _ (t s : ℕ) (a : Allowed t s) where
         walking-asking = walks;
       }
     where
-      asks : (n : ℕ) (out b : List ℕ) → Gives (number t s b) Verdict.Accepted (n ∷ []) (b ∷ []) → length out ≡ t + s
-          → Gives (form t s n out) Verdict.Accepted [] (b ∷ [])
+      asks : (n : ℕ) (out b : List ℕ) → Gives (number t s b) (Ok tt) (n ∷ []) (b ∷ []) → length out ≡ t + s
+          → Gives (form t s n out) (Ok tt) [] (b ∷ [])
       asks n out b g long =
           let said = number-meant b n g in
           let below : n < N t s = omega (arith, said.1, number-below said.0) in
           let answered =
           sym (accepts (checked t s b) (schedule-accepted t s b a said.0) (number_of t s b))
-          ∙ ap Answer.Value (sym said.1) in (
+          ∙ ap Ok (sym said.1) in (
             (sym (form-accepted t s a n out below long), refl),
             ap (λ (l : List ℕ). l ∷ []) (sym (numbered-asked t s b n answered out long)),
           )
 
-      walks : (n k : ℕ) (out a' b m : List ℕ) → Gives (form t s n out) Verdict.Accepted [] (a' ∷ [])
-          → Gives (move (run k) t s a') Verdict.Accepted m (b ∷ [])
-          → Gives (form t s ((n + k) % N t s) out) Verdict.Accepted [] (b ∷ [])
+      walks : (n k : ℕ) (out a' b m : List ℕ) → Gives (form t s n out) (Ok tt) [] (a' ∷ [])
+          → Gives (move (run k) t s a') (Ok tt) m (b ∷ [])
+          → Gives (form t s ((n + k) % N t s) out) (Ok tt) [] (b ∷ [])
       walks n k out a' b m g h =
           let long = (form-allowed t s n out (sym g.0.0)).1 in
           let short = run_short a' k (taken (judge (run_rows t s a' k)) (worked k a') h.0.0) in

@@ -5,9 +5,9 @@ use mathlib.Core.List.{List, [], ◌∷◌}
 use mathlib.Core.Path.{◌≡◌, refl, ◌∙◌, ap, sym}
 use Prim.Native.Nat.{ℕ}
 use lib.ListN.{get_or}
+use Rattle.std.proofs.Common.{Ok, Err}
 use Rattle.refusal.specs.declared.Refusal.{Refusal}
-use Rattle.refusal.specs.declared.Verdict.{Verdict}
-use Rattle.refusal.specs.Answer.{answer, left, value}
+use Rattle.refusal.specs.Answer.{Verdict, answer, left, value}
 use Rattle.refusal.proofs.Theorems.{verdict-answer}
 use Rattle.counts.specs.Counts.{Allowed}
 use Rattle.schedule.specs.Check.{checked}
@@ -23,8 +23,8 @@ use Rattle.demands.specs.Calls.{move, next, explain, Gives}
 use Rattle.demands.specs.Explaining.{Explaining}
 
 -- what an accepted step says
-module _ (t s : ℕ) (b : List ℕ) {c m : List ℕ} (g : Gives (move next t s b) Verdict.Accepted m (c ∷ [])) where
-  passed : checked t s b ≡ Verdict.Accepted
+module _ (t s : ℕ) (b : List ℕ) {c m : List ℕ} (g : Gives (move next t s b) (Ok tt) m (c ∷ [])) where
+  passed : checked t s b ≡ Ok tt
   passed = sym (g.0.0 ∙ verdict-answer (checked t s b) (walk.changed b (rule.next b)))
 
   form : Form b
@@ -58,8 +58,8 @@ explaining t s a = record {
   refused-alike = alike;
 }
   where
-    alike : (b : List ℕ) (why : Refusal) (m : List ℕ) → Gives (move next t s b) (Verdict.Refused why) m (b ∷ [])
-        → Gives (explain t s b) (Verdict.Refused why) m (b ∷ [])
+    alike : (b : List ℕ) (why : Refusal) (m : List ℕ) → Gives (move next t s b) (Err why) m (b ∷ [])
+        → Gives (explain t s b) (Err why) m (b ∷ [])
     alike b why m g =
         let n = walk.changed b (rule.next b) in
         let same = g.0.0 ∙ verdict-answer (checked t s b) n in (

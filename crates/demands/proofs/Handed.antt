@@ -7,9 +7,8 @@
 use mathlib.Core.List.{List, [], ◌∷◌}
 use mathlib.Core.Path.{◌≡◌, ap}
 use Prim.Native.Nat.{ℕ}
-use Rattle.refusal.specs.declared.Answer.{Answer}
-use Rattle.refusal.specs.Answer.{verdict, value}
-use Rattle.record.specs.declared.reading.Reading.{Reading}
+use Rattle.refusal.specs.Answer.{Answer, verdict, value}
+use Rattle.record.specs.Parts.{Reading}
 use Rattle.record.specs.Parts as said
 use Rattle.demands.specs.Calls.{Says}
 

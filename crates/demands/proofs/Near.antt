@@ -9,8 +9,8 @@ use borrow.Author.Tests.{le-ltb}
 use lib.Dec.{T, leb→le}
 use lib.IntN.{ℤ, pos, negsuc, neg_ℤ, ◌+ℤ◌, ◌-ℤ◌, +ℤ_invr}
 use lib.Signed.{le_z}
+use Rattle.std.proofs.Common.{Err}
 use Rattle.refusal.specs.declared.Refusal.TheVariants.{WrongTakeUps}
-use Rattle.refusal.specs.declared.Verdict.{Verdict}
 use Rattle.counts.specs.Counts.{Allowed}
 use Rattle.schedule.specs.Schedule.{ones}
 use Rattle.schedule.specs.Check.{checked}
@@ -23,7 +23,7 @@ use Rattle.circle.proofs.Circle.{top-schedule}
 
 -- o ones and then q zeros, as many beats as t and s
 ones-met : (t s o q : ℕ) (z : ℤ) → Allowed t s → z +ℤ pos t ≡ pos o → (z ≡ pos 0 → ⊥) → q ≤ o → o + q ≡ t + s
-    → checked t s (top o q) ≡ Verdict.Refused (WrongTakeUps z)
+    → checked t s (top o q) ≡ Err (WrongTakeUps z)
 ones-met t s o q z a e some fits size =
     let b = top o q in
     let p = top-schedule o q fits in
@@ -39,7 +39,7 @@ least-of zero n h = absurd h
 least-of (suc m) n h = omega (arith, leb→le n m h)
 
 pub near-met : (t s : ℕ) (z : ℤ) → Allowed t s → Near t s z → (z ≡ pos 0 → ⊥)
-    → (b : List ℕ) × (checked t s b ≡ Verdict.Refused (WrongTakeUps z))
+    → (b : List ℕ) × (checked t s b ≡ Err (WrongTakeUps z))
 near-met t s (pos n) a near some =
     let most = leb→le n s near.1.le in
     (top (n + t) (s - n), ones-met t s (n + t) (s - n) (pos n) a refl some (omega (arith, a)) (omega arith))

@@ -7,11 +7,10 @@ use Prim.Native.Nat.{ℕ, ◌+◌, ◌≤◌}
 use native.Mathlib.Omega.{arith}
 use lib.ListN.{length, get_or, take, drop}
 use lib.Seq.{take_at}
-use Rattle.refusal.specs.declared.Answer.{Answer}
+use Rattle.std.proofs.Common.{Ok, Err}
 use Rattle.refusal.specs.declared.Refusal.{Refusal}
 use Rattle.refusal.specs.declared.Refusal.TheVariants.{NoSuchOutline}
-use Rattle.refusal.specs.declared.Verdict.{Verdict}
-use Rattle.refusal.specs.Answer.{answer, value, left}
+use Rattle.refusal.specs.Answer.{Verdict, answer, value, left}
 use Rattle.refusal.specs.Rows.{judge}
 use Rattle.refusal.proofs.Rows.{both}
 use Rattle.triangle.specs.Count.{largest}
@@ -39,29 +38,29 @@ second e = ap (λ (l : List (List ℕ)). get_or l 1 []) e
 
 -- a call that answers and leaves so
 gives : (t s : ℕ) (b text done : List ℕ) (n : ℕ)
-    → (outline_answer t s b text ≡ Answer.Value n) × (outline_left t s b text ≡ done)
-    → Gives (outline t s b text) Verdict.Accepted (n ∷ []) (b ∷ done ∷ [])
+    → (outline_answer t s b text ≡ Ok n) × (outline_left t s b text ≡ done)
+    → Gives (outline t s b text) (Ok tt) (n ∷ []) (b ∷ done ∷ [])
 gives t s b text done n e = (says _ _ (sym e.0), behind b _ _ (sym e.1))
 
 -- a call that is refused so
-refuses : (t s : ℕ) (b text : List ℕ) {why : Refusal} → judge (outline_rows t s b (length text)) ≡ Verdict.Refused why
-    → Gives (outline t s b text) (Verdict.Refused why) (0 ∷ []) (b ∷ text ∷ [])
+refuses : (t s : ℕ) (b text : List ℕ) {why : Refusal} → judge (outline_rows t s b (length text)) ≡ Err why
+    → Gives (outline t s b text) (Err why) (0 ∷ []) (b ∷ text ∷ [])
 refuses t s b text {why} e =
     let all = printed b ++ drop (length (printed b)) text in (
-      says (Answer.Refused why) _ (sym (ap (λ (v : Verdict). answer v (length (printed b))) e)),
+      says (Err why) _ (sym (ap (λ (v : Verdict). answer v (length (printed b))) e)),
       behind b _ _ (sym (ap (λ (v : Verdict). left v all text) e)),
     )
 
 -- the empty schedule
-nothing : (lent : List ℕ) → Gives (outline 0 0 [] lent) Verdict.Accepted (0 ∷ []) ([] ∷ lent ∷ [])
+nothing : (lent : List ℕ) → Gives (outline 0 0 [] lent) (Ok tt) (0 ∷ []) ([] ∷ lent ∷ [])
 unfolding headings schedule grow parse foremost tree_of planted lines text
 nothing lent =
     gives 0 0 [] lent lent 0 (way-there (omega arith) (schedule-closed Outline.none) lent (omega arith))
 
 -- what an accepted call has written
 module _ (t s n : ℕ) (b text after : List ℕ)
-    (g : Gives (outline t s b text) Verdict.Accepted (n ∷ []) (b ∷ after ∷ [])) where
-  passed : judge (outline_rows t s b (length text)) ≡ Verdict.Accepted
+    (g : Gives (outline t s b text) (Ok tt) (n ∷ []) (b ∷ after ∷ [])) where
+  passed : judge (outline_rows t s b (length text)) ≡ Ok tt
   passed = taken _ _ g.0.0
 
   closed : (t ≡ s) × (t ≤ largest) × Schedule t t b
@@ -80,10 +79,10 @@ module _ (t s n : ℕ) (b text after : List ℕ)
 
 -- the text of a closed schedule is read
 reads : {n : ℕ} {b : List ℕ} (x out : List ℕ) → n ≤ largest → Schedule n n b → x ≡ printed b → length out ≡ n + n
-    → Gives (schedule-of-outline n x out) Verdict.Accepted [] (x ∷ b ∷ [])
+    → Gives (schedule-of-outline n x out) (Ok tt) [] (x ∷ b ∷ [])
 reads {n} {b} x out few q e fit =
     let it = found (outline_of b) (right-length n (length out) few fit) (outline-size q) e in
-    (b, subst (Back n x out Verdict.Accepted) (outline-schedule q) it, refl, refl)
+    (b, subst (Back n x out (Ok tt)) (outline-schedule q) it, refl, refl)
 
 -- what the reader left
 left_so : {n : ℕ} {x out y b : List ℕ} {v : Verdict} {m : List ℕ}
@@ -91,8 +90,8 @@ left_so : {n : ℕ} {x out y b : List ℕ} {v : Verdict} {m : List ℕ}
 left_so {n} {x} {out} {y} {b} {v} g = subst (Back n x out v) (sym (second g.3)) g.1
 
 -- what the reader says of a text that it does not take
-unread : {n : ℕ} {x out c : List ℕ} {why : Refusal} (v : Verdict) → v ≡ Verdict.Refused why
-    → judge (back_rows n (length out)) ≡ Verdict.Accepted → Back n x out v c
+unread : {n : ℕ} {x out c : List ℕ} {why : Refusal} (v : Verdict) → v ≡ Err why
+    → judge (back_rows n (length out)) ≡ Ok tt → Back n x out v c
     → (k : ℕ) × (why ≡ NoSuchOutline k) × Wrong n x k
 unread v e fit (found o a size q) = let z : ◌≡◌ {A = ℕ} 0 1 = cc in absurd (omega arith)
 unread {why = why} v e fit (none {k = k} a other wrong) =
@@ -127,7 +126,7 @@ outlines = record {
   not-read = λ n x out why few fit g. unread _ refl (right-length n (length out) few fit) g.1;
 }
   where
-    writes : (n : ℕ) (x out b : List ℕ) → Gives (schedule-of-outline n x out) Verdict.Accepted [] (x ∷ b ∷ [])
+    writes : (n : ℕ) (x out b : List ℕ) → Gives (schedule-of-outline n x out) (Ok tt) [] (x ∷ b ∷ [])
         → Writes n b x
     writes n x out b g =
         let given = gives n n b x _ _ (back-and-there (left_so g) x (omega arith)) in

@@ -26,9 +26,10 @@ use mathlib.Core.Path.{◌≡◌, refl}
 use Prim.Native.Nat.{ℕ, ◌*◌}
 use native.Mathlib.Omega.{arith}
 use lib.ListN.{replicate}
+use Rattle.std.proofs.Common.{Ok, Err}
 use Rattle.bounded.specs.Bounded.{every, first_from}
 use Rattle.refusal.specs.declared.Refusal.{Refusal}
-use Rattle.refusal.specs.declared.Verdict.{Verdict}
+use Rattle.refusal.specs.Answer.{Verdict}
 use Rattle.triangle.specs.Count.{N, most_beats}
 use Rattle.schedule.specs.Schedule.{ones, zeros, is_schedule}
 use Rattle.circle.specs.Step.{shift, found, has01, moves_next}
@@ -78,85 +79,85 @@ unfolding size word root lefts rights parents
 has-1010 =
     record { tree = node leaf (node leaf leaf); nodes = refl; beats = refl; left = refl; right = refl; parent = refl }
 
-treed-1100 : Treed 2 form-1100 (room 2) (room 2) (room 2) Verdict.Accepted (2 ∷ 0 ∷ []) (0 ∷ 0 ∷ []) (0 ∷ 1 ∷ [])
+treed-1100 : Treed 2 form-1100 (room 2) (room 2) (room 2) (Ok tt) (2 ∷ 0 ∷ []) (0 ∷ 0 ∷ []) (0 ∷ 1 ∷ [])
 unfolding first_from ones zeros
 treed-1100 = filled refl has-1100
 
-treed-1010 : Treed 2 form-1010 (room 2) (room 2) (room 2) Verdict.Accepted (0 ∷ 0 ∷ []) (2 ∷ 0 ∷ []) (0 ∷ 1 ∷ [])
+treed-1010 : Treed 2 form-1010 (room 2) (room 2) (room 2) (Ok tt) (0 ∷ 0 ∷ []) (2 ∷ 0 ∷ []) (0 ∷ 1 ∷ [])
 unfolding first_from ones zeros
 treed-1010 = filled refl has-1010
 
-untreed-1100 : Untreed 2 (2 ∷ 0 ∷ []) (0 ∷ 0 ∷ []) (0 ∷ 1 ∷ []) (room 4) Verdict.Accepted form-1100
+untreed-1100 : Untreed 2 (2 ∷ 0 ∷ []) (0 ∷ 0 ∷ []) (0 ∷ 1 ∷ []) (room 4) (Ok tt) form-1100
 untreed-1100 = back.found refl has-1100
 
-untreed-1010 : Untreed 2 (0 ∷ 0 ∷ []) (2 ∷ 0 ∷ []) (0 ∷ 1 ∷ []) (room 4) Verdict.Accepted form-1010
+untreed-1010 : Untreed 2 (0 ∷ 0 ∷ []) (2 ∷ 0 ∷ []) (0 ∷ 1 ∷ []) (room 4) (Ok tt) form-1010
 untreed-1010 = back.found refl has-1010
 
 -- [P3] refuses everything: by any refusal, whatever is answered and left beside it
-pub never : {why : Refusal} → Verdict.Refused why ≡ Verdict.Accepted → ⊥
+pub never : {why : Refusal} → ◌≡◌ {A = Verdict} (Err why) (Ok tt) → ⊥
 never e = let z : ◌≡◌ {A = ℕ} 0 1 = cc in omega arith
 
 module _ (why : Refusal) (m : List ℕ) (x : List (List ℕ)) where
-  pub count-refusing : Gives (count 3 2) (Verdict.Refused why) m x → ⊥
+  pub count-refusing : Gives (count 3 2) (Err why) m x → ⊥
   count-refusing g = never g.0.0
 
-  pub check-refusing : Gives (check 3 2 form-11100) (Verdict.Refused why) m x → ⊥
+  pub check-refusing : Gives (check 3 2 form-11100) (Err why) m x → ⊥
   unfolding first_from ones zeros
   check-refusing g = never g.0.0
 
-  pub next-refusing : Gives (move next 3 2 form-11100) (Verdict.Refused why) m x → ⊥
+  pub next-refusing : Gives (move next 3 2 form-11100) (Err why) m x → ⊥
   unfolding first_from ones zeros
   next-refusing g = never g.0.0
 
-  pub changed-refusing : Gives (changed next 3 2 form-11100) (Verdict.Refused why) m x → ⊥
+  pub changed-refusing : Gives (changed next 3 2 form-11100) (Err why) m x → ⊥
   unfolding first_from ones zeros
   changed-refusing g = never g.0.0
 
-  pub run-refusing : Gives (move (run 2) 3 2 form-11100) (Verdict.Refused why) m x → ⊥
+  pub run-refusing : Gives (move (run 2) 3 2 form-11100) (Err why) m x → ⊥
   unfolding first_from ones zeros
   run-refusing g = never g.0.0
 
-  pub run-changed-refusing : Gives (changed (run 2) 3 2 form-11100) (Verdict.Refused why) m x → ⊥
+  pub run-changed-refusing : Gives (changed (run 2) 3 2 form-11100) (Err why) m x → ⊥
   unfolding first_from ones zeros
   run-changed-refusing g = never g.0.0
 
-  pub number-refusing : Gives (number 3 2 form-11100) (Verdict.Refused why) m x → ⊥
+  pub number-refusing : Gives (number 3 2 form-11100) (Err why) m x → ⊥
   unfolding first_from ones zeros
   number-refusing g = never g.0.0
 
-  pub form-refusing : Gives (form 3 2 1 (room 5)) (Verdict.Refused why) m x → ⊥
+  pub form-refusing : Gives (form 3 2 1 (room 5)) (Err why) m x → ⊥
   unfolding N
   form-refusing g = never g.0.0
 
-  pub form-on-sheet-refusing : Gives (form-on-sheet 3 2 1 (room 7) 1) (Verdict.Refused why) m x → ⊥
+  pub form-on-sheet-refusing : Gives (form-on-sheet 3 2 1 (room 7) 1) (Err why) m x → ⊥
   unfolding N
   form-on-sheet-refusing g = never g.0.0
 
-  pub tree-refusing : Gives (tree 2 form-1100 (room 2) (room 2) (room 2)) (Verdict.Refused why) m x → ⊥
+  pub tree-refusing : Gives (tree 2 form-1100 (room 2) (room 2) (room 2)) (Err why) m x → ⊥
   tree-refusing g = never (treed-one g.3 treed-1100).0
 
   pub schedule-of-tree-refusing :
-      Gives (schedule-of-tree 2 (2 ∷ 0 ∷ []) (0 ∷ 0 ∷ []) (0 ∷ 1 ∷ []) (room 4)) (Verdict.Refused why) m x → ⊥
+      Gives (schedule-of-tree 2 (2 ∷ 0 ∷ []) (0 ∷ 0 ∷ []) (0 ∷ 1 ∷ []) (room 4)) (Err why) m x → ⊥
   schedule-of-tree-refusing g = never (untreed-one g.1 untreed-1100).0
 
-  pub read-refusing : Gives (read (record_of_kind 3 2) (room most_beats)) (Verdict.Refused why) m x → ⊥
+  pub read-refusing : Gives (read (record_of_kind 3 2) (room most_beats)) (Err why) m x → ⊥
   unfolding N value_of
   read-refusing g = never g.0.0
 
-  pub read-from-top-refusing : Gives (read (record_of_kind 1 2) (room most_beats)) (Verdict.Refused why) m x → ⊥
+  pub read-from-top-refusing : Gives (read (record_of_kind 1 2) (room most_beats)) (Err why) m x → ⊥
   unfolding N value_of
   read-from-top-refusing g = never g.0.0
 
-  pub read-beaten-refusing : Gives (read (5 ∷ 0 ∷ 2 ∷ 0 ∷ 3 ∷ 2 ∷ 168 ∷ []) (room most_beats)) (Verdict.Refused why) m x
+  pub read-beaten-refusing : Gives (read (5 ∷ 0 ∷ 2 ∷ 0 ∷ 3 ∷ 2 ∷ 168 ∷ []) (room most_beats)) (Err why) m x
       → ⊥
   unfolding first_from ones zeros value_of tabulate
   read-beaten-refusing g = never g.0.0
 
-  pub write-refusing : Gives (write 3 3 2 form-11100 (room 14)) (Verdict.Refused why) m x → ⊥
+  pub write-refusing : Gives (write 3 3 2 form-11100 (room 14)) (Err why) m x → ⊥
   unfolding first_from ones zeros low_first
   write-refusing g = never g.0.0
 
-  pub write-beaten-refusing : Gives (write 2 3 2 form-11100 (room 7)) (Verdict.Refused why) m x → ⊥
+  pub write-beaten-refusing : Gives (write 2 3 2 form-11100 (room 7)) (Err why) m x → ⊥
   unfolding first_from ones zeros low_first tabulate
   write-beaten-refusing g = never g.0.0
 

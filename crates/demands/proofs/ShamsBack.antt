@@ -18,9 +18,10 @@ use mathlib.Core.List.{List, [], ◌∷◌}
 use mathlib.Core.Path.{◌≡◌, refl, ap, ap₂}
 use Prim.Native.Nat.{ℕ, ◌*◌}
 use native.Mathlib.Omega.{arith}
+use Rattle.std.proofs.Common.{Err}
 use Rattle.bounded.specs.Bounded.{every, first_from}
 use Rattle.refusal.specs.declared.Refusal.{Refusal}
-use Rattle.refusal.specs.declared.Verdict.{Verdict}
+use Rattle.refusal.specs.Answer.{Verdict}
 use Rattle.schedule.specs.Schedule.{ones, zeros, is_schedule}
 use Rattle.circle.specs.Step.{shift, found, has01, moves_next}
 use Rattle.circle.specs.Step as rule
@@ -79,19 +80,19 @@ two-worked = omega (arith, one-worked, ap₂ walk.changed one-back two_back)
 
 -- [P3] refuses everything
 module _ (why : Refusal) (m : List ℕ) (x : List (List ℕ)) where
-  pub previous-refusing : Gives (move previous 3 2 form-11100) (Verdict.Refused why) m x → ⊥
+  pub previous-refusing : Gives (move previous 3 2 form-11100) (Err why) m x → ⊥
   unfolding first_from ones zeros
   previous-refusing g = never g.0.0
 
-  pub previous-changed-refusing : Gives (changed previous 3 2 form-11100) (Verdict.Refused why) m x → ⊥
+  pub previous-changed-refusing : Gives (changed previous 3 2 form-11100) (Err why) m x → ⊥
   unfolding first_from ones zeros
   previous-changed-refusing g = never g.0.0
 
-  pub run-back-refusing : Gives (move (run-back 2) 3 2 form-11100) (Verdict.Refused why) m x → ⊥
+  pub run-back-refusing : Gives (move (run-back 2) 3 2 form-11100) (Err why) m x → ⊥
   unfolding first_from ones zeros
   run-back-refusing g = never g.0.0
 
-  pub run-back-changed-refusing : Gives (changed (run-back 2) 3 2 form-11100) (Verdict.Refused why) m x → ⊥
+  pub run-back-changed-refusing : Gives (changed (run-back 2) 3 2 form-11100) (Err why) m x → ⊥
   unfolding first_from ones zeros
   run-back-changed-refusing g = never g.0.0
 

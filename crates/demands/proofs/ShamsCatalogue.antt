@@ -10,8 +10,9 @@ use mathlib.Core.List.{List, [], ◌∷◌}
 use mathlib.Core.Path.{◌≡◌, sym}
 use Prim.Native.Nat.{ℕ}
 use native.Mathlib.Omega.{arith}
+use Rattle.std.proofs.Common.{Ok}
 use Rattle.bounded.specs.Bounded.{every, first_from}
-use Rattle.refusal.specs.declared.Verdict.{Verdict}
+use Rattle.refusal.specs.Answer.{Verdict}
 use Rattle.triangle.specs.Count.{N, most_beats}
 use Rattle.schedule.specs.Schedule.{ones, zeros, is_schedule}
 use Rattle.circle.specs.Step.{shift, found, has01, moves_next, next}
@@ -38,5 +39,5 @@ module _ (v : Verdict) (x : List (List ℕ)) where
   read-3-as-1 t s c g = let z : ◌≡◌ {A = ℕ} 1 2 = cc g.0.1 in omega arith
 
 pub write-1-taken : (m : List ℕ) (x : List (List ℕ))
-    → Gives (write 1 3 2 form-11100 (room 14)) Verdict.Accepted m x → ⊥
+    → Gives (write 1 3 2 form-11100 (room 14)) (Ok tt) m x → ⊥
 write-1-taken m x g = never (sym g.0.0)

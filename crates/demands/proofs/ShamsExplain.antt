@@ -12,9 +12,10 @@ use mathlib.Core.List.{List, [], ◌∷◌}
 use mathlib.Core.Path.{◌≡◌}
 use Prim.Native.Nat.{ℕ}
 use native.Mathlib.Omega.{arith}
+use Rattle.std.proofs.Common.{Err}
 use Rattle.bounded.specs.Bounded.{every, first_from}
 use Rattle.refusal.specs.declared.Refusal.{Refusal}
-use Rattle.refusal.specs.declared.Verdict.{Verdict}
+use Rattle.refusal.specs.Answer.{Verdict}
 use Rattle.triangle.specs.Count.{N}
 use Rattle.schedule.specs.Schedule.{ones, zeros, is_schedule}
 use Rattle.circle.specs.Step.{shift, found, has01, moves_next}
@@ -37,7 +38,7 @@ abbrev form-10 : List ℕ
 form-10 = 1 ∷ 0 ∷ []
 
 pub explain-refusing : (why : Refusal) (m : List ℕ) (x : List (List ℕ))
-    → Gives (explain 3 2 form-11100) (Verdict.Refused why) m x → ⊥
+    → Gives (explain 3 2 form-11100) (Err why) m x → ⊥
 unfolding first_from ones zeros
 explain-refusing why m x g = never g.0.0
 

@@ -19,11 +19,11 @@ use mathlib.Core.Path.{◌≡◌, refl, sym, ◌∙◌, ap}
 use Prim.Native.Nat.{ℕ}
 use native.Mathlib.Omega.{arith}
 use lib.ListN.{length}
+use Rattle.std.proofs.Common.{Ok, Err}
 use Rattle.bounded.specs.Bounded.{first_from}
 use Rattle.refusal.specs.declared.Refusal.{Refusal}
 use Rattle.refusal.specs.declared.Refusal.TheVariants.{NoSuchOutline}
-use Rattle.refusal.specs.declared.Verdict.{Verdict}
-use Rattle.refusal.specs.Answer.{place}
+use Rattle.refusal.specs.Answer.{Verdict, place}
 use Rattle.schedule.specs.Schedule.{ones, zeros}
 use Rattle.tree.specs.Parse.{grow, parse, foremost, tree_of}
 use Rattle.text.specs.Decimal.{digits, decimal}
@@ -56,22 +56,22 @@ abbrev text-1010 : List ℕ
 text-1010 = 49 ∷ 10 ∷ 50 ∷ 10 ∷ []
 
 -- what the reader gives for the last two
-read-1100 : Back 2 text-1100 (room 4) Verdict.Accepted form-1100
+read-1100 : Back 2 text-1100 (room 4) (Ok tt) form-1100
 unfolding headings below schedule beats lines lines_of text stem decimal digits
 read-1100 = back.found (heading (heading none then none) then none) refl refl refl
 
-read-1010 : Back 2 text-1010 (room 4) Verdict.Accepted form-1010
+read-1010 : Back 2 text-1010 (room 4) (Ok tt) form-1010
 unfolding headings below schedule beats lines lines_of text stem decimal digits
 read-1010 = back.found (heading none then heading none then none) refl refl refl
 
 -- [P3] refuses everything
 module _ (why : Refusal) (m : List ℕ) (x : List (List ℕ)) where
-  pub outline-refusing : Gives (outline 1 1 form-10 (room 2)) (Verdict.Refused why) m x → ⊥
+  pub outline-refusing : Gives (outline 1 1 form-10 (room 2)) (Err why) m x → ⊥
   unfolding first_from ones zeros grow parse foremost tree_of planted lines lines_of text stem decimal digits
   outline-refusing g = never g.0.0
 
   pub schedule-of-outline-refusing :
-      Gives (schedule-of-outline 2 text-1100 (room 4)) (Verdict.Refused why) m x → ⊥
+      Gives (schedule-of-outline 2 text-1100 (room 4)) (Err why) m x → ⊥
   schedule-of-outline-refusing g = never (back_one g.1 read-1100).0
 
 -- [P5] answers one fixed number n: the text of 1100 has six bytes, and that of 1010 four
@@ -98,7 +98,7 @@ module _ (v w : Verdict) (m k l b c : List ℕ) where
 -- [H18] the writer: 110 takes up more than it sets down; the last line of 11010010 is 2, and not 3, and that of 110010
 -- is 2, and not 1.2; after the text of 10 the third byte stays 7
 pub outline-open-taken : (m : List ℕ) (x : List (List ℕ))
-    → Gives (outline 2 1 (1 ∷ 1 ∷ 0 ∷ []) (room 6)) Verdict.Accepted m x → ⊥
+    → Gives (outline 2 1 (1 ∷ 1 ∷ 0 ∷ []) (room 6)) (Ok tt) m x → ⊥
 unfolding first_from ones zeros
 outline-open-taken m x g = never (sym g.0.0)
 
@@ -126,22 +126,22 @@ only-1 (heading none then none) e = refl
 only-1 (heading none then (heading p then r)) e = absurd (omega (arith, e))
 only-1 (heading (heading p then q) then r) e = absurd (omega (arith, e))
 
-pub taken-1 : {x out c : List ℕ} (v : Verdict) → v ≡ Verdict.Accepted → Back 1 x out v c → x ≡ text-10
+pub taken-1 : {x out c : List ℕ} (v : Verdict) → v ≡ Ok tt → Back 1 x out v c → x ≡ text-10
 taken-1 v e (back.found o a size q) = q ∙ only-1 o size
 taken-1 v e (back.none a other wrong) = absurd (never e)
 taken-1 v e (back.unfit a) = absurd (never e)
 
 module _ (m : List ℕ) (x : List (List ℕ)) where
-  pub reading-leading-zero : Gives (schedule-of-outline 1 (48 ∷ 49 ∷ 10 ∷ []) (room 2)) Verdict.Accepted m x → ⊥
+  pub reading-leading-zero : Gives (schedule-of-outline 1 (48 ∷ 49 ∷ 10 ∷ []) (room 2)) (Ok tt) m x → ⊥
   reading-leading-zero g = omega (arith, ap length (taken-1 _ refl g.1))
 
-  pub reading-surplus : Gives (schedule-of-outline 1 text-1010 (room 2)) Verdict.Accepted m x → ⊥
+  pub reading-surplus : Gives (schedule-of-outline 1 text-1010 (room 2)) (Ok tt) m x → ⊥
   reading-surplus g = omega (arith, ap length (taken-1 _ refl g.1))
 
-  pub reading-unfed : Gives (schedule-of-outline 1 (49 ∷ []) (room 2)) Verdict.Accepted m x → ⊥
+  pub reading-unfed : Gives (schedule-of-outline 1 (49 ∷ []) (room 2)) (Ok tt) m x → ⊥
   reading-unfed g = omega (arith, ap length (taken-1 _ refl g.1))
 
-  pub reading-returned : Gives (schedule-of-outline 1 (49 ∷ 13 ∷ 10 ∷ []) (room 2)) Verdict.Accepted m x → ⊥
+  pub reading-returned : Gives (schedule-of-outline 1 (49 ∷ 13 ∷ 10 ∷ []) (room 2)) (Ok tt) m x → ⊥
   reading-returned g = omega (arith, ap length (taken-1 _ refl g.1))
 
 pub reading-another : (v : Verdict) (m b : List ℕ)
@@ -158,9 +158,9 @@ wrong-1 u = ap place (surplus-wrong (heading none then none) 50 (10 ∷ []) refl
 
 module _ (m : List ℕ) (x : List (List ℕ)) where
   pub reading-place-from-one :
-      Gives (schedule-of-outline 1 text-1010 (room 2)) (Verdict.Refused (NoSuchOutline 2)) m x → ⊥
+      Gives (schedule-of-outline 1 text-1010 (room 2)) (Err (NoSuchOutline 2)) m x → ⊥
   reading-place-from-one g = omega (arith, wrong-1 g.1)
 
   pub reading-place-fixed :
-      Gives (schedule-of-outline 1 text-1010 (room 2)) (Verdict.Refused (NoSuchOutline 0)) m x → ⊥
+      Gives (schedule-of-outline 1 text-1010 (room 2)) (Err (NoSuchOutline 0)) m x → ⊥
   reading-place-fixed g = omega (arith, wrong-1 g.1)

@@ -12,9 +12,9 @@ use native.Mathlib.Omega.{arith}
 use lib.Dec.{eqb, ltb}
 use lib.IntN.{ℤ, pos, negsuc}
 use lib.ListN.{length}
+use Rattle.std.proofs.Common.{Err}
 use Rattle.refusal.specs.declared.Refusal.TheVariants.{WrongTakeUps, NoRoom, RunTooLong, NotClosed}
-use Rattle.refusal.specs.declared.Verdict.{Verdict}
-use Rattle.refusal.specs.Answer.{refusal, surplus, verdict, answer}
+use Rattle.refusal.specs.Answer.{Verdict, refusal, surplus, verdict, answer}
 use Rattle.refusal.specs.Rows.{Row, ◌⇒◌, judge}
 use Rattle.refusal.proofs.Rows.{All, all_join}
 use Rattle.refusal.proofs.Theorems.{Six, six-given, sixless, sixless-all, surplus-else, verdict-answer}
@@ -172,9 +172,9 @@ passes-six (write kind t s b out) v m x g =
 pub passes_on : (c : Call) → Passes c
 passes_on c = record { six = passes-six c; other = λ v m x g. surplus-else v }
 
-pub off-by-none : (c : Call) (m : List ℕ) (x : List (List ℕ)) → Gives c (Verdict.Refused (WrongTakeUps (pos 0))) m x → ⊥
+pub off-by-none : (c : Call) (m : List ℕ) (x : List (List ℕ)) → Gives c (Err (WrongTakeUps (pos 0))) m x → ⊥
 off-by-none c m x g = ((passes_on c).six _ m x g refl).3.some refl
 
 pub off-1010 : (z : ℤ) (m : List ℕ) (x : List (List ℕ))
-    → Gives (check 3 1 (1 ∷ 0 ∷ 1 ∷ 0 ∷ [])) (Verdict.Refused (WrongTakeUps z)) m x → z ≡ negsuc 0
+    → Gives (check 3 1 (1 ∷ 0 ∷ 1 ∷ 0 ∷ [])) (Err (WrongTakeUps z)) m x → z ≡ negsuc 0
 off-1010 z m x g = ap surplus (g.0.0 ∙ checked-1010)

@@ -2,8 +2,8 @@
 -- back". proofs/Backwards.antt proves it of all allowed counts. Definitions only.
 --     Backwards t s     the step back gives the one form whose next form is lent, and a run back the form so many steps
 --                       back; a round back meets each form once; calls on and back undo each other [V13]
-use Rattle.std.specs.Prelude.{List, [], ◌∷◌, ◌≡◌, ℕ, ◌≤◌}
-use Rattle.refusal.specs.declared.Verdict.{Verdict}
+use Rattle.std.specs.Prelude.{List, [], ◌∷◌, ◌≡◌, ℕ, ◌≤◌, Ok}
+use Rattle.refusal.specs.Answer.{Verdict}
 use Rattle.triangle.specs.Count.{N}
 use Rattle.schedule.specs.Schedule.{Schedule}
 use Rattle.circle.specs.Walk.{worked, OneWay}
@@ -16,9 +16,9 @@ pub record Backwards (t s : ℕ) : Type 0 where
   -- what a step and a run back give
   pub previous-given : (b : List ℕ) → Schedule t s b
       → (c : List ℕ) × Precedes t s c b
-      × Gives (move previous t s b) Verdict.Accepted (walk.changed b c ∷ []) (c ∷ [])
+      × Gives (move previous t s b) (Ok tt) (walk.changed b c ∷ []) (c ∷ [])
   pub run-back-given : (b : List ℕ) (k : ℕ) → Schedule t s b → k ≤ most_steps
-      → Gives (move (run-back k) t s b) Verdict.Accepted (worked_back k b ∷ []) (steps_back k b ∷ [])
+      → Gives (move (run-back k) t s b) (Ok tt) (worked_back k b ∷ []) (steps_back k b ∷ [])
   -- as many steps back as there are forms meet each form once, the start last, and change what as many steps on change
   pub every-form-once : (a b : List ℕ) → Schedule t s a → Schedule t s b → OneWay steps_back t s a b
   pub start-last : (a : List ℕ) (p : Schedule t s a) → (every-form-once a a p p).count ≡ N t s

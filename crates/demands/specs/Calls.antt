@@ -17,9 +17,7 @@
 --     Owed            a lent list, and how long it has to be
 use Rattle.std.specs.Prelude.{List, [], ◌∷◌, ◌≡◌, ℕ, ◌+◌, take}
 use Rattle.form.specs.Answers.{form_verdict, form_left, sheet_verdict, sheet_left}
-use Rattle.refusal.specs.declared.Answer.{Answer}
-use Rattle.refusal.specs.declared.Verdict.{Verdict}
-use Rattle.refusal.specs.Answer.{verdict, value}
+use Rattle.refusal.specs.Answer.{Verdict, Answer, verdict, value}
 use Rattle.counts.specs.Counts.{counting}
 use Rattle.schedule.specs.Check.{checked}
 use Rattle.circle.specs.Answers.{next_answer, next_left, run_answer, run_left}

@@ -12,8 +12,9 @@
 --     Demand3All t s       how many forms there are, and runs [D3h]
 --     Demands              all of them
 use Rattle.std.specs.Prelude.{true, List, [], ◌∷◌, ◌≢◌, ◌⊎◌, ◌≡◌, ℕ, ◌+◌, ◌-◌, ◌*◌, ◌%◌, ◌≤◌, ◌<◌, length, get_or}
+use Rattle.std.specs.Prelude.{Ok, Err}
 use Rattle.refusal.specs.declared.Refusal.{Refusal}
-use Rattle.refusal.specs.declared.Verdict.{Verdict}
+use Rattle.refusal.specs.Answer.{Verdict}
 use Rattle.refusal.specs.Refusal.{refusal_number}
 use Rattle.triangle.specs.Count.{N, largest, most_beats}
 use Rattle.counts.specs.Counts.{Allowed}
@@ -59,10 +60,10 @@ pub data Wrong : Call → Type 0 where
 -- call leaves all that was lent to it as it was
 pub record Demand1 : Type 0 where
   pub by_number : (why : Refusal) → (1 ≤ refusal_number why) × (refusal_number why ≤ 15)
-  pub refused : (c : Call) (m : List ℕ) (x : List (List ℕ)) → Wrong c → Gives c Verdict.Accepted m x → ⊥
-  pub unchanged : (c : Call) (why : Refusal) (m : List ℕ) (x : List (List ℕ)) → Gives c (Verdict.Refused why) m x
+  pub refused : (c : Call) (m : List ℕ) (x : List (List ℕ)) → Wrong c → Gives c (Ok tt) m x → ⊥
+  pub unchanged : (c : Call) (why : Refusal) (m : List ℕ) (x : List (List ℕ)) → Gives c (Err why) m x
       → x ≡ lent c
-  pub silent : (c : Call) (why : Refusal) (m : List ℕ) (x : List (List ℕ)) → Gives c (Verdict.Refused why) m x
+  pub silent : (c : Call) (why : Refusal) (m : List ℕ) (x : List (List ℕ)) → Gives c (Err why) m x
       → (i : ℕ) → get_or (silenced c m) i 0 ≡ 0
   pub answered : (c : Call) → ((v : Verdict) (m : List ℕ) (x : List (List ℕ)) → Gives c v m x → ⊥) → ⊥
   pub one_answer : (c : Call) (v w : Verdict) (m k : List ℕ) (x y : List (List ℕ)) → Gives c v m x → Gives c w k y
@@ -73,22 +74,22 @@ pub record Demand1 : Type 0 where
 -- allowed. And what all this is for: walking to a form and asking for it by number give the same schedule
 pub record Demand2 (t s : ℕ) : Type 0 where
   pub next-form : (b : List ℕ) → Schedule t s b
-      → Gives (move next t s b) Verdict.Accepted (walk.changed b (rule.next b) ∷ []) (rule.next b ∷ [])
-  pub number-given : (b : List ℕ) → Schedule t s b → (n : ℕ) × Gives (number t s b) Verdict.Accepted (n ∷ []) (b ∷ [])
-  pub number-fewest : (b : List ℕ) (n : ℕ) → Gives (number t s b) Verdict.Accepted (n ∷ []) (b ∷ [])
+      → Gives (move next t s b) (Ok tt) (walk.changed b (rule.next b) ∷ []) (rule.next b ∷ [])
+  pub number-given : (b : List ℕ) → Schedule t s b → (n : ℕ) × Gives (number t s b) (Ok tt) (n ∷ []) (b ∷ [])
+  pub number-fewest : (b : List ℕ) (n : ℕ) → Gives (number t s b) (Ok tt) (n ∷ []) (b ∷ [])
       → Fewest (start t s) b n
-  pub number-listed : (b : List ℕ) (n : ℕ) → Gives (number t s b) Verdict.Accepted (n ∷ []) (b ∷ [])
+  pub number-listed : (b : List ℕ) (n : ℕ) → Gives (number t s b) (Ok tt) (n ∷ []) (b ∷ [])
       → get_or (S t s) n [] ≡ b
   pub form-given : (n : ℕ) (out : List ℕ) → n < N t s → length out ≡ t + s
-      → (b : List ℕ) × Schedule t s b × Gives (form t s n out) Verdict.Accepted [] (b ∷ [])
-  pub form-number : (n : ℕ) (out b : List ℕ) → Gives (form t s n out) Verdict.Accepted [] (b ∷ [])
-      → Gives (number t s b) Verdict.Accepted (n ∷ []) (b ∷ [])
-  pub number-form : (n : ℕ) (out b : List ℕ) → Gives (number t s b) Verdict.Accepted (n ∷ []) (b ∷ [])
+      → (b : List ℕ) × Schedule t s b × Gives (form t s n out) (Ok tt) [] (b ∷ [])
+  pub form-number : (n : ℕ) (out b : List ℕ) → Gives (form t s n out) (Ok tt) [] (b ∷ [])
+      → Gives (number t s b) (Ok tt) (n ∷ []) (b ∷ [])
+  pub number-form : (n : ℕ) (out b : List ℕ) → Gives (number t s b) (Ok tt) (n ∷ []) (b ∷ [])
       → length out ≡ t + s
-      → Gives (form t s n out) Verdict.Accepted [] (b ∷ [])
-  pub walking-asking : (n k : ℕ) (out a b : List ℕ) (m : List ℕ) → Gives (form t s n out) Verdict.Accepted [] (a ∷ [])
-      → Gives (move (run k) t s a) Verdict.Accepted m (b ∷ [])
-      → Gives (form t s ((n + k) % N t s) out) Verdict.Accepted [] (b ∷ [])
+      → Gives (form t s n out) (Ok tt) [] (b ∷ [])
+  pub walking-asking : (n k : ℕ) (out a b : List ℕ) (m : List ℕ) → Gives (form t s n out) (Ok tt) [] (a ∷ [])
+      → Gives (move (run k) t s a) (Ok tt) m (b ∷ [])
+      → Gives (form t s ((n + k) % N t s) out) (Ok tt) [] (b ∷ [])
 
 -- demand 3: as many steps as there are forms meet each form once and come back last to where they began; a step changes
 -- two or four beats, and the whole round 2·N(t, s) + 2·N(t−1, s−1) − 2
@@ -103,10 +104,10 @@ pub record Demand3 (t s : ℕ) : Type 0 where
 -- beats that its steps change
 pub record Demand3All (t s : ℕ) : Type 0 where
   pub how-many : (l : List (List ℕ)) → Lists (Schedule t s) l → length l ≡ N t s
-  pub counted : Gives (count t s) Verdict.Accepted (N t s ∷ []) []
+  pub counted : Gives (count t s) (Ok tt) (N t s ∷ []) []
   pub all_listed : (l : List (List ℕ)) × Lists (Schedule t s) l
   pub run-given : (b : List ℕ) (k : ℕ) → Schedule t s b → k ≤ most_steps
-      → Gives (move (run k) t s b) Verdict.Accepted (worked k b ∷ []) (steps k b ∷ [])
+      → Gives (move (run k) t s b) (Ok tt) (worked k b ∷ []) (steps k b ∷ [])
 
 -- all of it: t from 0 to the largest count and s from 0 to t, but t from 2 and s from 1 for the round
 pub record Demands : Type 0 where

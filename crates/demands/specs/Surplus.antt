@@ -5,8 +5,7 @@
 --     Passes          a call that answers 6 is about some beats, and says how far their ones are off; every other
 --                     answer has the surplus 0. So a call that is about no beats never answers 6 [Q8]
 use Rattle.std.specs.Prelude.{List, ◌≡◌, ℕ, ◌+◌, pos}
-use Rattle.refusal.specs.declared.Verdict.{Verdict}
-use Rattle.refusal.specs.Answer.{refusal, surplus}
+use Rattle.refusal.specs.Answer.{Verdict, refusal, surplus}
 use Rattle.schedule.specs.Meaning.{Off}
 use Rattle.record.specs.Bytes.{unpacked}
 use Rattle.record.specs.Record.{ups, downs, body}

@@ -12,10 +12,9 @@ use Prim.Native.Nat.{ℕ, ◌+◌, ◌%◌, ◌≤◌, ◌<◌}
 use native.Mathlib.Nat.{mod-lt}
 use native.Mathlib.Omega.{arith}
 use lib.ListN.{length}
+use Rattle.std.proofs.Common.{Ok}
 use Rattle.form.specs.Answers.{form_verdict, form_left}
-use Rattle.refusal.specs.declared.Answer.{Answer}
-use Rattle.refusal.specs.declared.Verdict.{Verdict}
-use Rattle.refusal.specs.Answer.{answer, left}
+use Rattle.refusal.specs.Answer.{Verdict, answer, left}
 use Rattle.refusal.proofs.Theorems.{answer-value}
 use Rattle.triangle.specs.Count.{N}
 use Rattle.triangle.proofs.Count.{N-pos}
@@ -34,23 +33,23 @@ use Rattle.form.proofs.Verdicts.{number-allowed, number-taken, form-allowed, for
 
 module _ (t s : ℕ) where
   -- what is written
-  written : (n : ℕ) (out : List ℕ) → form_verdict t s n out ≡ Verdict.Accepted → form_left t s n out ≡ form_of t s n
+  written : (n : ℕ) (out : List ℕ) → form_verdict t s n out ≡ Ok tt → form_left t s n out ≡ form_of t s n
   written n out e = ap (λ (v : Verdict). left v (form_of t s n) out) e
 
-  pub asked-numbered : (n : ℕ) (out : List ℕ) → form_verdict t s n out ≡ Verdict.Accepted
-      → number_answer t s (form_left t s n out) ≡ Answer.Value n
+  pub asked-numbered : (n : ℕ) (out : List ℕ) → form_verdict t s n out ≡ Ok tt
+      → number_answer t s (form_left t s n out) ≡ Ok n
   asked-numbered n out e =
       let within = number-allowed t s n (form-allowed t s n out e).0 in
       let accepted = schedule-accepted t s (form_of t s n) (within.0, within.1) (form-schedule within.1 n) in
       ap (number_answer t s) (written n out e)
       ∙ ap (λ (v : Verdict). answer v (number_of t s (form_of t s n))) accepted
-      ∙ ap Answer.Value (form-number within.1 n within.2)
+      ∙ ap Ok (form-number within.1 n within.2)
 
   pub form-accepted : Allowed t s → (n : ℕ) (out : List ℕ) → n < N t s → length out ≡ t + s
-      → form_verdict t s n out ≡ Verdict.Accepted
+      → form_verdict t s n out ≡ Ok tt
   form-accepted a n out below long = form-taken t s n out (number-taken t s n (allowed-counts t s a) below) long
 
-  pub numbered-asked : (b : List ℕ) (n : ℕ) → number_answer t s b ≡ Answer.Value n
+  pub numbered-asked : (b : List ℕ) (n : ℕ) → number_answer t s b ≡ Ok n
       → (out : List ℕ) → length out ≡ t + s → form_left t s n out ≡ b
   numbered-asked b n e out long =
       let said = answer-value (checked t s b) (number_of t s b) e in
@@ -60,7 +59,7 @@ module _ (t s : ℕ) where
       ∙ ap (form_of t s) said.1
       ∙ number-form right.1
 
-  pub walked-asked : (m k : ℕ) (out : List ℕ) → form_verdict t s m out ≡ Verdict.Accepted → k ≤ most_steps
+  pub walked-asked : (m k : ℕ) (out : List ℕ) → form_verdict t s m out ≡ Ok tt → k ≤ most_steps
       → run_left t s (form_left t s m out) k ≡ form_left t s ((m + k) % N t s) out
   walked-asked m k out e h =
       let asked = form-allowed t s m out e in

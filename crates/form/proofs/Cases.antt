@@ -1,9 +1,9 @@
 -- The definitions of specs/ on small inputs, by computing them: two values of each. Assumes nothing.
 use mathlib.Core.List.{[], ◌∷◌}
 use mathlib.Core.Path.{◌≡◌, refl}
+use Rattle.std.proofs.Common.{Ok, Err}
 use Rattle.bounded.specs.Bounded.{every, first_from}
 use Rattle.refusal.specs.declared.Refusal.TheVariants.{NoSuchNumber, WrongLength, NoRoom}
-use Rattle.refusal.specs.declared.Verdict.{Verdict}
 use Rattle.refusal.specs.Rows.{judge}
 use Rattle.triangle.specs.Count.{N}
 use Rattle.schedule.specs.Schedule.{ones, zeros, is_schedule}
@@ -31,11 +31,11 @@ unfolding floor_of
 floor-3-0 = refl
 
 -- the last number of 3, 2, and one past it
-taken-4 : judge (number_rows 3 2 4) ≡ Verdict.Accepted
+taken-4 : judge (number_rows 3 2 4) ≡ Ok tt
 unfolding N
 taken-4 = refl
 
-beyond-5 : judge (number_rows 3 2 5) ≡ Verdict.Refused NoSuchNumber
+beyond-5 : judge (number_rows 3 2 5) ≡ Err NoSuchNumber
 unfolding N
 beyond-5 = refl
 
@@ -47,19 +47,19 @@ sheet-0 : on_sheet 0 (1 ∷ 0 ∷ []) (7 ∷ 7 ∷ 7 ∷ 7 ∷ []) ≡ 1 ∷ 0 �
 sheet-0 = refl
 
 -- number 1 of 2, 1 in its room and in a place too few; there is no number 2
-form-taken : judge (form_rows 2 1 1 (7 ∷ 7 ∷ 7 ∷ [])) ≡ Verdict.Accepted
+form-taken : judge (form_rows 2 1 1 (7 ∷ 7 ∷ 7 ∷ [])) ≡ Ok tt
 unfolding N
 form-taken = refl
 
-form-short : judge (form_rows 2 1 1 (7 ∷ 7 ∷ [])) ≡ Verdict.Refused WrongLength
+form-short : judge (form_rows 2 1 1 (7 ∷ 7 ∷ [])) ≡ Err WrongLength
 unfolding N
 form-short = refl
 
-form-there : form_verdict 2 1 1 (7 ∷ 7 ∷ 7 ∷ []) ≡ Verdict.Accepted
+form-there : form_verdict 2 1 1 (7 ∷ 7 ∷ 7 ∷ []) ≡ Ok tt
 unfolding N
 form-there = refl
 
-form-beyond : form_verdict 2 1 2 (7 ∷ 7 ∷ 7 ∷ []) ≡ Verdict.Refused NoSuchNumber
+form-beyond : form_verdict 2 1 2 (7 ∷ 7 ∷ 7 ∷ []) ≡ Err NoSuchNumber
 unfolding N
 form-beyond = refl
 
@@ -72,19 +72,19 @@ unfolding N
 form-leaves-lent = refl
 
 -- the same on a sheet of four places, from column 1 and from column 2 on
-sheet-taken : judge (sheet_rows 2 1 1 (7 ∷ 7 ∷ 7 ∷ 7 ∷ []) 1) ≡ Verdict.Accepted
+sheet-taken : judge (sheet_rows 2 1 1 (7 ∷ 7 ∷ 7 ∷ 7 ∷ []) 1) ≡ Ok tt
 unfolding N
 sheet-taken = refl
 
-sheet-short : judge (sheet_rows 2 1 1 (7 ∷ 7 ∷ 7 ∷ 7 ∷ []) 2) ≡ Verdict.Refused NoRoom
+sheet-short : judge (sheet_rows 2 1 1 (7 ∷ 7 ∷ 7 ∷ 7 ∷ []) 2) ≡ Err NoRoom
 unfolding N
 sheet-short = refl
 
-sheet-there : sheet_verdict 2 1 1 (7 ∷ 7 ∷ 7 ∷ 7 ∷ []) 1 ≡ Verdict.Accepted
+sheet-there : sheet_verdict 2 1 1 (7 ∷ 7 ∷ 7 ∷ 7 ∷ []) 1 ≡ Ok tt
 unfolding N
 sheet-there = refl
 
-sheet-beyond : sheet_verdict 2 1 2 (7 ∷ 7 ∷ 7 ∷ 7 ∷ []) 1 ≡ Verdict.Refused NoSuchNumber
+sheet-beyond : sheet_verdict 2 1 2 (7 ∷ 7 ∷ 7 ∷ 7 ∷ []) 1 ≡ Err NoSuchNumber
 unfolding N
 sheet-beyond = refl
 

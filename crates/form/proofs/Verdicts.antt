@@ -17,10 +17,10 @@ use borrow.Author.Tests.{lt-ltb, le-ltb, eq-eqb, ne_eqb}
 use lib.Dec.{eqb, ltb}
 use lib.ListN.{length, take, drop}
 use lib.Seq.{drop-drop}
+use Rattle.std.proofs.Common.{Ok, Err}
 use Rattle.form.specs.Answers.{number_rows, form_rows, sheet_rows, on_sheet}
 use Rattle.refusal.specs.declared.Refusal.{Refusal}
 use Rattle.refusal.specs.declared.Refusal.TheVariants.{WrongLength, NoSuchNumber, NoRoom}
-use Rattle.refusal.specs.declared.Verdict.{Verdict}
 use Rattle.refusal.specs.Rows.{Row, ◌⇒◌, judge}
 use Rattle.refusal.proofs.Theorems.{accepted-none}
 use Rattle.refusal.proofs.Rows.{judge-refused, judge-accepted, judge-front, judge-back}
@@ -32,19 +32,19 @@ module _ (t s n : ℕ) where
   abbrev seven : List Row
   seven = (not (ltb n (N t s)) ⇒ NoSuchNumber) ∷ []
 
-  pub number-refused : {why : Refusal} → judge (count_rows t s) ≡ Verdict.Refused why
-      → judge (number_rows t s n) ≡ Verdict.Refused why
+  pub number-refused : {why : Refusal} → judge (count_rows t s) ≡ Err why
+      → judge (number_rows t s n) ≡ Err why
   number-refused {why} e = judge-refused (count_rows t s) seven why e
 
-  pub number-beyond : judge (count_rows t s) ≡ Verdict.Accepted → N t s ≤ n
-      → judge (number_rows t s n) ≡ Verdict.Refused NoSuchNumber
+  pub number-beyond : judge (count_rows t s) ≡ Ok tt → N t s ≤ n
+      → judge (number_rows t s n) ≡ Err NoSuchNumber
   number-beyond e h = judge-accepted (count_rows t s) seven e ∙ simp (le-ltb n (N t s) h)
 
-  pub number-taken : judge (count_rows t s) ≡ Verdict.Accepted → n < N t s
-      → judge (number_rows t s n) ≡ Verdict.Accepted
+  pub number-taken : judge (count_rows t s) ≡ Ok tt → n < N t s
+      → judge (number_rows t s n) ≡ Ok tt
   number-taken e h = judge-accepted (count_rows t s) seven e ∙ simp (lt-ltb n (N t s) h)
 
-  pub number-allowed : judge (number_rows t s n) ≡ Verdict.Accepted → (t ≤ largest) × (s ≤ t) × (n < N t s)
+  pub number-allowed : judge (number_rows t s n) ≡ Ok tt → (t ≤ largest) × (s ≤ t) × (n < N t s)
   number-allowed e =
       let a = counts-allowed t s (judge-front (count_rows t s) seven e) in
       (a.0, a.1, elim (dec_lt n (N t s)) [ yes h ↦ h | no h ↦ absurd (beyond (omega arith)) ])
@@ -61,20 +61,20 @@ module _ (t s n : ℕ) where
     abbrev three : List Row
     three = (not (eqb (length out) (t + s)) ⇒ WrongLength) ∷ []
 
-    pub form-refused : {why : Refusal} → judge (number_rows t s n) ≡ Verdict.Refused why
-        → judge (form_rows t s n out) ≡ Verdict.Refused why
+    pub form-refused : {why : Refusal} → judge (number_rows t s n) ≡ Err why
+        → judge (form_rows t s n out) ≡ Err why
     form-refused {why} e = judge-refused (number_rows t s n) three why e
 
-    pub form-long : judge (number_rows t s n) ≡ Verdict.Accepted → ((length out ≡ t + s) → ⊥)
-        → judge (form_rows t s n out) ≡ Verdict.Refused WrongLength
+    pub form-long : judge (number_rows t s n) ≡ Ok tt → ((length out ≡ t + s) → ⊥)
+        → judge (form_rows t s n out) ≡ Err WrongLength
     form-long e h = judge-accepted (number_rows t s n) three e ∙ simp (ne_eqb (length out) (t + s) h)
 
-    pub form-taken : judge (number_rows t s n) ≡ Verdict.Accepted → length out ≡ t + s
-        → judge (form_rows t s n out) ≡ Verdict.Accepted
+    pub form-taken : judge (number_rows t s n) ≡ Ok tt → length out ≡ t + s
+        → judge (form_rows t s n out) ≡ Ok tt
     form-taken e h = judge-accepted (number_rows t s n) three e ∙ simp (eq-eqb (length out) (t + s) h)
 
-    pub form-allowed : judge (form_rows t s n out) ≡ Verdict.Accepted
-        → (judge (number_rows t s n) ≡ Verdict.Accepted) × (length out ≡ t + s)
+    pub form-allowed : judge (form_rows t s n out) ≡ Ok tt
+        → (judge (number_rows t s n) ≡ Ok tt) × (length out ≡ t + s)
     form-allowed e = (
       judge-front (number_rows t s n) three e,
       elim (ℕ_discrete (length out) (t + s)) [ yes h ↦ h | no h ↦ absurd (other h) ],
@@ -92,16 +92,16 @@ module _ (t s n : ℕ) where
     abbrev twelve : List Row
     twelve = (ltb (length sheet) (column + t + s) ⇒ NoRoom) ∷ []
 
-    pub sheet-refused : {why : Refusal} → judge (number_rows t s n) ≡ Verdict.Refused why
-        → judge (sheet_rows t s n sheet column) ≡ Verdict.Refused why
+    pub sheet-refused : {why : Refusal} → judge (number_rows t s n) ≡ Err why
+        → judge (sheet_rows t s n sheet column) ≡ Err why
     sheet-refused {why} e = judge-refused (number_rows t s n) twelve why e
 
-    pub sheet-short : judge (number_rows t s n) ≡ Verdict.Accepted → length sheet < column + t + s
-        → judge (sheet_rows t s n sheet column) ≡ Verdict.Refused NoRoom
+    pub sheet-short : judge (number_rows t s n) ≡ Ok tt → length sheet < column + t + s
+        → judge (sheet_rows t s n sheet column) ≡ Err NoRoom
     sheet-short e h = judge-accepted (number_rows t s n) twelve e ∙ simp (lt-ltb (length sheet) (column + t + s) h)
 
-    pub sheet-taken : judge (number_rows t s n) ≡ Verdict.Accepted → column + t + s ≤ length sheet
-        → judge (sheet_rows t s n sheet column) ≡ Verdict.Accepted
+    pub sheet-taken : judge (number_rows t s n) ≡ Ok tt → column + t + s ≤ length sheet
+        → judge (sheet_rows t s n sheet column) ≡ Ok tt
     sheet-taken e h = judge-accepted (number_rows t s n) twelve e ∙ simp (le-ltb (length sheet) (column + t + s) h)
 
 pub on-part : (column end : ℕ) (form sheet : List ℕ) → end ≡ column + length form

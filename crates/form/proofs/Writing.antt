@@ -1,10 +1,10 @@
 -- From a number to its form, last beat first: one turn of the writing loop, on plain values. A place is
 -- one in list S, from 1 on.
---     floor-zero, floor-more     how the floor is looked up
+--     floor-more                 how the floor is looked up
 --     AtPlace                    a list written last beat first is a schedule of p, q, and stands at place k
 --     Behind                     what is written from i on, and what is still to be written
 --     behind-none                nothing is written yet
---     behind-some                before the last place there is a 0 to be written
+--     behind-room                before the last place there are a 1 and a 0 to be written, and room for them
 --     floor-some, floor-within, next-within, less-within, one-within     no difference of a turn falls below 0
 --     behind-turn                one beat more
 --     behind-all                 at the last place, with ones and then zeros in front, it is the form of the number
@@ -25,6 +25,7 @@ use Rattle.triangle.specs.Count.{N, largest}
 use Rattle.triangle.proofs.Count.{N-add, N-zero, N-over, N-pos}
 use Rattle.schedule.specs.Schedule.{ones, zeros}
 use Rattle.schedule.proofs.Hand.{Turned, down, up, ones-turn, zeros-turn, unturned, plays-schedule}
+use Rattle.schedule.proofs.Copied.{stored}
 use Rattle.circle.specs.Step.{top}
 use Rattle.circle.proofs.Shape.{ups, downs, shape-join, top-shape, turn-ups, turn-downs}
 use Rattle.circle.proofs.Rank.{raise, rank, rank_of, rank_below}
@@ -35,13 +36,14 @@ use Rattle.number.proofs.Counting.{flat-turned}
 use Rattle.number.proofs.Numbers.{form-schedule}
 use Rattle.number.proofs.Places.{place_of, place-zero, place-more, place_same, place-back, raise-place, form-place}
 use Rattle.form.specs.Place.{floor_of}
-use Rattle.form.proofs.Filling.{written_at}
 
-pub floor-zero : (p q : ℕ) → q ≡ 0 → 0 ≡ floor_of p q
-unfolding floor_of
-floor-zero p q e = rw e
+-- a list from the place on where a beat is stored
+written_at : (b : List ℕ) (i x : ℕ) → 0 < i → i ≤ length b → drop (i - 1) (set b (i - 1) x) ≡ x ∷ drop i b
+written_at b i x h l =
+    let e : suc (i - 1) ≡ i = omega arith in
+    stored b (i - 1) x (omega arith) ∙ ap (λ (k : ℕ). x ∷ drop k b) e
 
-pub floor-more : (p q : ℕ) → ((q ≡ 0) → ⊥) → N p (q - 1) ≡ floor_of p q
+floor-more : (p q : ℕ) → ((q ≡ 0) → ⊥) → N p (q - 1) ≡ floor_of p q
 unfolding floor_of
 floor-more p zero e = absurd (e refl)
 floor-more p (suc q) e = rw (sub-one (suc q))
@@ -104,12 +106,19 @@ behind-none {t} {s} {n} b h l e o a f =
     }
 
 module _ {t s n : ℕ} {b : List ℕ} {i p k all low : ℕ} (u : Behind t s n b i p k all low) (h : (k ≡ all) → ⊥) where
-  pub behind-some : 1 ≤ u.down
+  behind-some : 1 ≤ u.down
   behind-some = by u.down u.counted
     where
       by : (q : ℕ) → all ≡ N p q → 1 ≤ q
       by zero e = absurd (h (omega (arith, u.first, u.last, N-zero p)))
       by (suc q) e = omega arith
+
+  pub behind-room : (1 ≤ p) × (p < i) × (i ≤ length b)
+  behind-room = (omega (arith, u.level, behind-some), omega (arith, u.left, behind-some), u.within)
+
+  -- the count that is looked up before the beat is known
+  looked : {next : ℕ} → next ≡ N (p - 1) (i - 1 - p) → next ≡ N (p - 1) (u.down - 1)
+  looked e = e ∙ ap (N (p - 1)) (omega (arith, u.left))
 
   -- the floor is a count that is looked up
   floor-count : low ≡ N p (u.down - 1)
@@ -127,8 +136,8 @@ module _ {t s n : ℕ} {b : List ℕ} {i p k all low : ℕ} (u : Behind t s n b 
   pub floor-within : low ≤ all
   floor-within = omega (arith, all-add)
 
-  pub next-within : {next : ℕ} → next ≡ N (p - 1) (u.down - 1) → next ≤ low
-  next-within e = omega (arith, low-add)
+  pub next-within : {next : ℕ} → next ≡ N (p - 1) (i - 1 - p) → next ≤ low
+  next-within e = omega (arith, looked e, low-add)
 
   pub less-within : (down : Bool) → ltb k low ≡ down → {less : ℕ} → less ≡ cond down 0 (low - 1) → less ≤ k
   less-within true e l = omega arith
@@ -208,11 +217,13 @@ module _ {t s n : ℕ} {b : List ℕ} {i p k all low : ℕ} (u : Behind t s n b 
       }
 
   -- the beat is a 0 before the floor
-  pub behind-turn : (down : Bool) → ltb k low ≡ down → {next less all' low' : ℕ} → next ≡ N (p - 1) (u.down - 1)
+  pub behind-turn : (down : Bool) → ltb k low ≡ down → {next less all' low' : ℕ} → next ≡ N (p - 1) (i - 1 - p)
       → less ≡ cond down 0 (low - 1) → all' ≡ cond down low (all - low) → low' ≡ cond down (low - next) next
       → Behind t s n (set b (i - 1) (bool_byte (not down))) (i - 1) (p - bool_byte (not down)) (k - less) all' low'
-  behind-turn true e x el ea ew = behind-down (ltb-true k low e) (omega arith) (omega arith) ea (omega (arith, low-add))
-  behind-turn false e x el ea ew = behind-up (ltb-false k low e) refl (omega arith) ea (ew ∙ x)
+  behind-turn true e x el ea ew =
+      let next = looked x in
+      behind-down (ltb-true k low e) (omega arith) (omega arith) ea (omega (arith, low-add))
+  behind-turn false e x el ea ew = behind-up (ltb-false k low e) refl (omega arith) ea (ew ∙ looked x)
 
 module _ {t s n : ℕ} {b : List ℕ} {i p k all low : ℕ} (u : Behind t s n b i p k all low) (last : k ≡ all) where
   -- what is left stands for ones and then zeros

@@ -8,8 +8,7 @@
 --     sheet_verdict, sheet_left     what writing it onto a sheet answers and leaves [O3]
 use Rattle.std.specs.Prelude.{not, List, [], ◌∷◌, ◌++◌, ℕ, ◌+◌, eqb, ltb, length, take, drop}
 use Rattle.refusal.specs.declared.Refusal.TheVariants.{WrongLength, NoSuchNumber, NoRoom}
-use Rattle.refusal.specs.declared.Verdict.{Verdict}
-use Rattle.refusal.specs.Answer.{left}
+use Rattle.refusal.specs.Answer.{Verdict, left}
 use Rattle.refusal.specs.Rows.{Row, ◌⇒◌, judge}
 use Rattle.triangle.specs.Count.{N}
 use Rattle.counts.specs.Counts.{count_rows}

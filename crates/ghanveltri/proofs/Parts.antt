@@ -7,9 +7,7 @@
 use mathlib.Core.Path.{◌≡◌, ◌∙◌, ap, sym}
 use Prim.Native.Nat.{ℕ}
 use lib.IntN.{ℤ}
-use Rattle.refusal.specs.declared.Answer.{Answer}
-use Rattle.refusal.specs.declared.Verdict.{Verdict}
-use Rattle.refusal.specs.Answer.{refusal, place, surplus, verdict, value, answer}
+use Rattle.refusal.specs.Answer.{Verdict, Answer, refusal, place, surplus, verdict, value, answer}
 use Rattle.refusal.proofs.Theorems.{verdict-answer}
 
 pub refusal-of : (v w : Verdict) (r : ℕ) → r ≡ refusal v → v ≡ w → r ≡ refusal w

@@ -9,7 +9,7 @@
 #![tactic(auto)]
 
 ghost use Rattle.std.specs.Prelude.{List, ◌≡◌, ℕ, ◌≤◌, get_or};
-ghost use Rattle.refusal.specs.declared.Verdict.{Verdict};
+ghost use Rattle.refusal.specs.Answer.{Verdict};
 ghost use Rattle.form.specs.Answers.{form_verdict, form_left};
 ghost use Rattle.refusal.specs.Answer.{refusal, place, surplus, verdict, value};
 ghost use Rattle.counts.specs.Counts.{counting};
@@ -23,6 +23,8 @@ ghost use Rattle.outline.specs.Answers.{outline_answer, outline_left};
 ghost use Rattle.outline_back.specs.Back.{Back};
 
 use lists::Which;
+use reason::Explained;
+use refusal::Told;
 use std::io::{Read, Write};
 
 // The version, 2.1.0: major * 1000000 + minor * 1000 + patch.
@@ -80,7 +82,7 @@ pub fn gv_count_place(t: u64, s: u64) -> u64
 pub fn gv_count(t: u64, s: u64) -> u64
     ensures { result ≡ value (counting t s) }
 {
-    counts::count(t, s).value()
+    refusal::value(counts::count(t, s))
 }
 
 // Whether the beats have a number: 0, or the refusal, 1 to 6. Asks the check alone.
@@ -112,7 +114,7 @@ pub fn gv_number_surplus(t: u64, s: u64, beats: &[u8]) -> i32
 pub fn gv_number(t: u64, s: u64, beats: &[u8]) -> u64
     ensures { result ≡ value (number_answer t s beats.now) }
 {
-    number::number(t, s, beats).value()
+    refusal::value(number::number(t, s, beats))
 }
 
 // Writes the form of that number into the t+s lent bytes, and answers 0 or the refusal: 1, 2, 7, then 3.
@@ -131,7 +133,7 @@ pub fn gv_next(t: u64, s: u64, beats: &mut [u8]) -> u64
     ensures value { result ≡ refusal (verdict (next_answer t s beats.old)) }
     ensures beats_after { beats.new ≡ next_left t s beats.old }
 {
-    circle::next(t, s, beats).verdict().refusal()
+    circle::next(t, s, beats).refusal()
 }
 
 // The beats that gv_next would change, and 0 where it refuses. Writes nothing.
@@ -139,7 +141,7 @@ pub fn gv_next(t: u64, s: u64, beats: &mut [u8]) -> u64
 pub fn gv_next_changed(t: u64, s: u64, beats: &[u8]) -> u64
     ensures { result ≡ value (next_answer t s beats.now) }
 {
-    circle::changed(t, s, beats).value()
+    refusal::value(circle::changed(t, s, beats))
 }
 
 // Takes the lent schedule that many steps on, and answers 0 or the refusal: 1 to 6, then 13. A refusal
@@ -148,14 +150,14 @@ pub fn gv_run(t: u64, s: u64, beats: &mut [u8], steps: u64) -> u64
     ensures value { result ≡ refusal (verdict (run_answer t s beats.old steps)) }
     ensures beats_after { beats.new ≡ run_left t s beats.old steps }
 {
-    circle::run(t, s, beats, steps).verdict().refusal()
+    circle::run(t, s, beats, steps).refusal()
 }
 
 // The beats that gv_run would change at its steps, added up, and 0 where it refuses. Writes nothing.
 pub fn gv_run_changed(t: u64, s: u64, beats: &[u8], steps: u64) -> u64
     ensures { result ≡ value (run_answer t s beats.now steps) }
 {
-    circle::run_changed(t, s, beats, steps).value()
+    refusal::value(circle::run_changed(t, s, beats, steps))
 }
 
 // Takes the lent schedule one step back, and answers 0 or the refusal, 1 to 6. A refusal changes nothing.
@@ -164,7 +166,7 @@ pub fn gv_previous(t: u64, s: u64, beats: &mut [u8]) -> u64
     ensures value { result ≡ refusal (verdict (previous_answer t s beats.old)) }
     ensures beats_after { beats.new ≡ previous_left t s beats.old }
 {
-    circle_back::previous(t, s, beats).verdict().refusal()
+    circle_back::previous(t, s, beats).refusal()
 }
 
 // The beats that gv_previous would change, and 0 where it refuses. Writes nothing.
@@ -172,7 +174,7 @@ pub fn gv_previous(t: u64, s: u64, beats: &mut [u8]) -> u64
 pub fn gv_previous_changed(t: u64, s: u64, beats: &[u8]) -> u64
     ensures { result ≡ value (previous_answer t s beats.now) }
 {
-    circle_back::previous_changed(t, s, beats).value()
+    refusal::value(circle_back::previous_changed(t, s, beats))
 }
 
 // Takes the lent schedule that many steps back, and answers 0 or the refusal: 1 to 6, then 13. A refusal
@@ -182,9 +184,7 @@ pub fn gv_run_back(t: u64, s: u64, beats: &mut [u8], steps: u64) -> u64
     ensures value { result ≡ refusal (verdict (run_back_answer t s beats.old steps)) }
     ensures beats_after { beats.new ≡ run_back_left t s beats.old steps }
 {
-    circle_back::run_back(t, s, beats, steps)
-        .verdict()
-        .refusal()
+    circle_back::run_back(t, s, beats, steps).refusal()
 }
 
 // The beats that gv_run_back would change at its steps, added up, and 0 where it refuses. Writes nothing.
@@ -192,7 +192,7 @@ pub fn gv_run_back(t: u64, s: u64, beats: &mut [u8], steps: u64) -> u64
 pub fn gv_run_back_changed(t: u64, s: u64, beats: &[u8], steps: u64) -> u64
     ensures { result ≡ value (run_back_answer t s beats.now steps) }
 {
-    circle_back::run_back_changed(t, s, beats, steps).value()
+    refusal::value(circle_back::run_back_changed(t, s, beats, steps))
 }
 
 // The case of the rule that says why gv_next would move a beat, 1 to 4; 0 where it refuses.
@@ -259,7 +259,7 @@ pub fn gv_outline(t: u64, s: u64, beats: &[u8], text: &mut [u8]) -> u64
     ensures value { result ≡ value (outline_answer t s beats.now text.old) }
     ensures text_after { text.new ≡ outline_left t s beats.now text.old }
 {
-    outline::outline(t, s, beats, text).value()
+    refusal::value(outline::outline(t, s, beats, text))
 }
 
 // Writes the schedule whose outline of n lines has exactly this text into the 2n lent bytes, and answers 0 or the
@@ -282,12 +282,13 @@ pub fn gv_outline_read_place(n: u64, text: &[u8], out: &[u8]) -> u64
 }
 
 // Lists the order records of a reader to a writer as the packing list does, to the end of the input or after a 9: 0
-// where all was listed, 1 where reading failed, 2 where writing failed.
+// where all was listed, 1 where reading failed, 2 where writing failed. This and the next two are names of one
+// function, `list_all`: a host calls them so, in C too.
 // [E18]
 pub fn gv_packing_list<R: Read, W: Write>(from: &mut R, to: &mut W) -> u64
     ensures { result ≤ 2 }
 {
-    lists::list_all(Which::Packing, from, to)
+    lists::status(lists::list_all(Which::Packing, from, to))
 }
 
 // The same of the list that explains each record.
@@ -295,7 +296,7 @@ pub fn gv_packing_list<R: Read, W: Write>(from: &mut R, to: &mut W) -> u64
 pub fn gv_explain_list<R: Read, W: Write>(from: &mut R, to: &mut W) -> u64
     ensures { result ≤ 2 }
 {
-    lists::list_all(Which::Explaining, from, to)
+    lists::status(lists::list_all(Which::Explaining, from, to))
 }
 
 // The same of the list of outlines.
@@ -303,5 +304,5 @@ pub fn gv_explain_list<R: Read, W: Write>(from: &mut R, to: &mut W) -> u64
 pub fn gv_outline_list<R: Read, W: Write>(from: &mut R, to: &mut W) -> u64
     ensures { result ≤ 2 }
 {
-    lists::list_all(Which::Outlining, from, to)
+    lists::status(lists::list_all(Which::Outlining, from, to))
 }

@@ -3,11 +3,11 @@
 // it does, and states its clauses again. The lists from one descriptor to another are C, host/lists.c, since nothing
 // that a static library may call reads or writes a descriptor and tells what failed. Their passes are here,
 // `list_packing`, `list_explaining` and `list_outlining`: each tells what a pass over a window did, and its contract is
-// that of a pass. [W3] [P13] [D1a] [P1]
+// that of a pass. Each is an own function for each C name, since C knows no other. [W3] [P13] [D1a] [P1]
 #![tactic(auto)]
 
 ghost use Rattle.std.specs.Prelude.{List, ◌≡◌, ℕ, get_or};
-ghost use Rattle.refusal.specs.declared.Verdict.{Verdict};
+ghost use Rattle.refusal.specs.Answer.{Verdict};
 ghost use Rattle.form.specs.Answers.{form_verdict, form_left};
 ghost use Rattle.refusal.specs.Answer.{refusal, place, surplus, verdict, value};
 ghost use Rattle.counts.specs.Counts.{counting};

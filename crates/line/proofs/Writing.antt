@@ -43,18 +43,18 @@ unfolding beat_text
 text-glyphs [] h = absurd (h refl)
 text-glyphs (x ∷ b) h = refl
 
-pub written-beats : (b xs ys : List ℕ) (at i : ℕ) → ((length b ≡ 0) → ⊥) → length b ≤ i → i ≤ length b
-    → ys ≡ paste xs at (glyphs b) i → Written at (beat_text b) xs ys (at + i)
-written-beats b xs ys at i h l m e =
-    let long : length (glyphs b) ≡ i = length-map b (λ y. 48 + y) ∙ omega arith in
-    subst (λ (p : List ℕ). Written at p xs ys (at + i)) (text-glyphs b h)
+pub written-beats : (b xs ys : List ℕ) (at i : ℕ) → ((length b ≡ 0) → ⊥) → i ≡ length b
+    → ys ≡ paste xs at (glyphs b) i → Written at (beat_text b) xs ys (at + length b)
+written-beats b xs ys at i h l e =
+    let long : length b ≡ length (glyphs b) = sym (length-map b (λ y. 48 + y)) in
+    subst (λ (p : List ℕ). Written at p xs ys (at + length b)) (text-glyphs b h)
     (record {
       text =
           e
           ∙ ap₂ (λ (g : List ℕ) (k : ℕ). take at xs ++ g ++ drop (at + k) xs)
-          (take_all i (glyphs b) (omega (arith, long)))
-          (sym long);
-      end = ap (λ (k : ℕ). at + k) (sym long);
+          (take_all i (glyphs b) (omega (arith, l, long)))
+          (l ∙ long);
+      end = ap (λ (k : ℕ). at + k) long;
     })
 
 pub text-fits : (b : List ℕ) → (length (beat_text b) ≤ 1) ⊎ (length (beat_text b) ≤ length b)

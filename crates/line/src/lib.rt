@@ -15,15 +15,13 @@ fn beat_text(beats: &[u8], out: &mut [u8], at: usize) -> usize
     requires { (at + length beats.now < length out.old) × Beats beats.now }
     ensures { Written at (beat_text beats.now) out.old out.new result }
 {
-    if beats.len() == 0 {
+    if beats.is_empty() {
         return put(b'-', out, at);
     }
-    let mut i = 0;
-    while i < beats.len() {
-        out[at + i] = b'0' + beats[i];
-        i += 1;
+    for (i, beat) in beats.iter().enumerate() {
+        out[at + i] = b'0' + *beat;
     }
-    at + i
+    at + beats.len()
 }
 
 // Writes the line of an accepted record at the start of out, and answers its length. Three numbers of at

@@ -7,8 +7,9 @@ use Prim.Native.Nat.{ℕ, ◌<◌}
 use native.Mathlib.Omega.{arith}
 use lib.IntN.{negsuc}
 use lib.ListN.{replicate}
+use Rattle.stream.specs.declared.Failure.{Failure}
+use Rattle.std.proofs.Common.{Ok, Err, None}
 use Rattle.refusal.specs.declared.Refusal.TheVariants.{WrongTakeUps, NoSuchNumber, NotClosed}
-use Rattle.refusal.specs.declared.Verdict.{Verdict}
 use Rattle.text.specs.Decimal.{digits, decimal}
 use Rattle.bounded.specs.Bounded.{every, first_from}
 use Rattle.triangle.specs.Count.{N, most_beats}
@@ -44,6 +45,7 @@ use Rattle.lists.specs.Listed.{
   widest,
   Buffers,
   Turned,
+  status_of,
 }
 
 -- 3 2 1 11010, of a record of kind 1 that holds 2 [E4]
@@ -285,7 +287,7 @@ waits : {room : ℕ} → Front.Short ≡ Front.Record → room < widest
 waits e = let z : ◌≡◌ {A = ℕ} 0 1 = cc in absurd (omega arith)
 
 abbrev after-the-end : ℕ → Stream
-after-the-end have = record { at = 0; have = have; ended = true; going = true; answer = 0 }
+after-the-end have = record { at = 0; have = have; ended = true; end = None }
 
 turned-at-the-end : Turned Which.Packing [] [] begun [] (after-the-end 0)
 unfolding value_of
@@ -303,14 +305,21 @@ turned-out-of-the-buffer : Turned Which.Packing [] [] begun [] (after-the-end 1)
 turned-out-of-the-buffer p = omega (arith, p.inside.held)
 
 -- the line after a verdict: "1 1 0 10", and "refused 7 0 0"
-text-taken : text Which.Packing (5 ∷ 0 ∷ 2 ∷ 0 ∷ 1 ∷ 1 ∷ 128 ∷ []) Verdict.Accepted
+text-taken : text Which.Packing (5 ∷ 0 ∷ 2 ∷ 0 ∷ 1 ∷ 1 ∷ 128 ∷ []) (Ok tt)
     ≡ 49 ∷ 32 ∷ 49 ∷ 32 ∷ 48 ∷ 32 ∷ 49 ∷ 48 ∷ 10 ∷ []
 unfolding value_of tabulate N digits decimal beat_text every first_from ones zeros is_schedule shift found has01
     moves_next
     next steps changed
 text-taken = refl
 
-text-refused : text Which.Packing [] (Verdict.Refused NoSuchNumber)
+text-refused : text Which.Packing [] (Err NoSuchNumber)
     ≡ 114 ∷ 101 ∷ 102 ∷ 117 ∷ 115 ∷ 101 ∷ 100 ∷ 32 ∷ 55 ∷ 32 ∷ 48 ∷ 32 ∷ 48 ∷ 10 ∷ []
 unfolding digits decimal
 text-refused = refl
+
+-- what listing answered, as a number
+status-listed : status_of (Ok tt) ≡ 0
+status-listed = refl
+
+status-unread : status_of (Err Failure.Unread) ≡ 1
+status-unread = refl

@@ -14,9 +14,9 @@ use lib.Dec.{eqb}
 use lib.IntN.{pos, ◌+ℤ◌}
 use lib.ListN.{length, take, drop}
 use lib.Seq.{take_at}
+use Rattle.std.proofs.Common.{Ok, Err}
 use Rattle.refusal.specs.declared.Refusal.{Refusal}
-use Rattle.refusal.specs.declared.Verdict.{Verdict}
-use Rattle.refusal.specs.Answer.{refusal, surplus}
+use Rattle.refusal.specs.Answer.{Verdict, refusal, surplus}
 use Rattle.refusal.specs.Refusal.{refusal_number, refusal_surplus}
 use Rattle.refusal.specs.Rows.{judge}
 use Rattle.triangle.specs.Count.{most_beats}
@@ -24,7 +24,7 @@ use Rattle.counts.specs.Counts.{Allowed}
 use Rattle.schedule.specs.Schedule.{Schedule}
 use Rattle.record.specs.Record.{long, layout_in, ups, downs, body, meant, meant_number, read_rows, eaten}
 use Rattle.record.specs.declared.reading.Order.{Order}
-use Rattle.record.specs.declared.reading.Reading.{Reading}
+use Rattle.record.specs.Parts.{Reading, unread}
 use Rattle.reader.specs.Answers.{told, left_by, read_answer, read_left}
 use Rattle.record.specs.Parts as said
 use Rattle.reader.proofs.Verdicts.{told-verdict}
@@ -55,7 +55,7 @@ module _ (src room : List ℕ) (h : length room ≡ most_beats) where
       sym (told-verdict (ups src) (downs src) number (long src) (verdict_on src)) ∙ ap said.verdict (sym answer-is ∙ e)
 
   pub record Ordered (o : Order) : Type 0 where
-    pub taken : verdict_on src ≡ Verdict.Accepted
+    pub taken : verdict_on src ≡ Ok tt
     pub few : Allowed o.t o.s
     pub is-t : o.t ≡ ups src
     pub is-s : o.s ≡ downs src
@@ -64,7 +64,7 @@ module _ (src room : List ℕ) (h : length room ≡ most_beats) where
     pub schedule : Schedule o.t o.s beats
     pub in-room : take (o.t + o.s) (read_left src room) ≡ beats
 
-  pub ordered : (o : Order) → read_answer src room ≡ Reading.Accepted o → Ordered o
+  pub ordered : (o : Order) → read_answer src room ≡ Ok o → Ordered o
   ordered o e = record {
     taken = taken;
     few = rw (is-t, is-s) means.allowed;
@@ -77,10 +77,10 @@ module _ (src room : List ℕ) (h : length room ≡ most_beats) where
         ∙ take_at beats (drop (ups src + downs src) room) (ups src + downs src) means.schedule.size;
   }
     where
-      taken : verdict_on src ≡ Verdict.Accepted
+      taken : verdict_on src ≡ Ok tt
       taken = verdict-of e
 
-      same : told (ups src) (downs src) number (long src) Verdict.Accepted ≡ Reading.Accepted o
+      same : told (ups src) (downs src) number (long src) (Ok tt) ≡ Ok o
       same = ap (told (ups src) (downs src) number (long src)) (sym taken) ∙ sym answer-is ∙ e
 
       is-t : o.t ≡ ups src
@@ -95,15 +95,15 @@ module _ (src room : List ℕ) (h : length room ≡ most_beats) where
       there : read_left src room ≡ beats ++ drop (ups src + downs src) room
       there = left_is ∙ ap (λ (v : Verdict). left_by (layout_in src) src v room) taken
 
-  pub turned_down : (why : Refusal) (m : ℕ) → read_answer src room ≡ Reading.Refused why m
-      → (verdict_on src ≡ Verdict.Refused why) × (m ≡ eaten why (long src))
+  pub turned_down : (why : Refusal) (m : ℕ) → read_answer src room ≡ unread why m
+      → (verdict_on src ≡ Err why) × (m ≡ eaten why (long src))
   turned_down why m e =
       let refused = verdict-of e in (
         refused,
         ap said.consumed (sym (ap (told (ups src) (downs src) number (long src)) (sym refused) ∙ sym answer-is ∙ e)),
       )
 
-pub six-there : (src : List ℕ) {why : Refusal} → verdict_on src ≡ Verdict.Refused why → refusal_number why ≡ 6
+pub six-there : (src : List ℕ) {why : Refusal} → verdict_on src ≡ Err why → refusal_number why ≡ 6
     → (4 ≤ length src) × (refusal_surplus why +ℤ pos (ups src) ≡ pos (ones_in src))
 six-there src {why} e six =
     let given : refusal (judge (read_rows most_beats src)) ≡ 6 = ap refusal e ∙ six in
@@ -133,7 +133,7 @@ module _ (which : Which) (src out : List ℕ) where
       (subst (λ (l : List ℕ). Written 0 l out after bytes)
       (rw (f.is-t, f.is-s, f.is_number, e) (ap (text which src) (sym f.taken))) w)
 
-  pub list-refused : (why : Refusal) → verdict_on src ≡ Verdict.Refused why
+  pub list-refused : (why : Refusal) → verdict_on src ≡ Err why
       → {consumed number bytes : ℕ} {after : List ℕ}
       → consumed ≡ eaten why (long src) → number ≡ refusal_number why
       → Written 0 (refused_in which src why) out after bytes

@@ -11,9 +11,9 @@ use mathlib.Core.Path.{◌≡◌, refl, sym, ◌∙◌, ap}
 use Prim.Native.Nat.{ℕ}
 use native.Mathlib.Decide.{ℕ_discrete}
 use borrow.Author.Tests.{ne_eqb}
+use Rattle.std.proofs.Common.{Ok, Err}
 use Rattle.refusal.specs.declared.Refusal.{Refusal}
-use Rattle.refusal.specs.declared.Verdict.{Verdict}
-use Rattle.refusal.specs.Answer.{refusal}
+use Rattle.refusal.specs.Answer.{Verdict, refusal}
 use Rattle.refusal.specs.Refusal.{refusal_number}
 use Rattle.triangle.specs.Count.{most_beats}
 use Rattle.reader.proofs.Sixes.{six-facts}
@@ -25,7 +25,7 @@ use Rattle.lists.specs.declared.Which.{Which}
 use Rattle.lists.specs.Listed.{refused_in, text, line_of, widest, packing_list, explanations, outlines}
 
 -- the line of a refused record
-refused-own : (which : Which) (src more : List ℕ) (why : Refusal) → verdict_on src ≡ Verdict.Refused why
+refused-own : (which : Which) (src more : List ℕ) (why : Refusal) → verdict_on src ≡ Err why
     → refused_in which (src ++ more) why ≡ refused_in which src why
 refused-own Which.Packing src more why r = refl
 refused-own Which.Outlining src more why r = refl
@@ -42,11 +42,11 @@ line-own which src more e = ap (text which (src ++ more)) (verdict-alone src mor
   where
     by : (v : Verdict) → verdict_on src ≡ v
         → text which (src ++ more) (verdict_on src) ≡ text which src (verdict_on src)
-    by Verdict.Accepted r =
+    by (Ok unit) r =
         let same = accepted-alone src more r in
         ap (text which (src ++ more)) r
         ∙ rw (same.1, same.2, same.3, same.0) (ap (text which src) (sym r))
-    by (Verdict.Refused why) r =
+    by (Err why) r =
         ap (text which (src ++ more)) r ∙ refused-own which src more why r ∙ ap (text which src) (sym r)
 
 module _ {room : ℕ} {input : List ℕ} {texts : List (List ℕ)} where

@@ -18,10 +18,11 @@
 --     outlines         the whole list of outlines of an input [I6]
 --     Buffers          the buffers are large enough: for any record, and for the beats of any schedule
 --     Turned           what a turn of a program does, in its buffers
-use Rattle.std.specs.Prelude.{cond, List, [], ◌∷◌, ◌++◌, ◌≡◌, ℕ, suc, ◌+◌, ◌*◌, ◌≤◌, eqb, length}
+--     status_of        what listing answered, as a number
+use Rattle.std.specs.Prelude.{cond, List, [], ◌∷◌, ◌++◌, ◌≡◌, ℕ, suc, ◌+◌, ◌*◌, ◌≤◌, eqb, length, Result, Ok, Err}
 use Rattle.refusal.specs.declared.Refusal.{Refusal}
 use Rattle.refusal.specs.declared.Refusal.TheVariants.{NotClosed}
-use Rattle.refusal.specs.declared.Verdict.{Verdict}
+use Rattle.refusal.specs.Answer.{Verdict}
 use Rattle.refusal.specs.Refusal.{refusal_number}
 use Rattle.triangle.specs.Count.{largest, most_beats}
 use Rattle.schedule.specs.Schedule.{ones}
@@ -31,6 +32,7 @@ use Rattle.record.specs.Record.{longest, layout_in, ups, downs, body, meant, mea
 use Rattle.outline.specs.Text.{printed}
 use Rattle.line.specs.Line.{accepted_line, refused_line}
 use Rattle.reason_line.specs.Line.{explained_line, counted_line}
+use Rattle.stream.specs.declared.Failure.{Failure}
 use Rattle.stream.specs.declared.Stream.{Stream}
 use Rattle.stream.specs.Stream.{verdict_on, list_of}
 use Rattle.stream.specs.Exchange.{window, Inside}
@@ -61,10 +63,10 @@ refused_in Which.Explaining src why =
 refused_in Which.Outlining src why = apart why
 
 abbrev pub text : Which → List ℕ → Verdict → List ℕ
-text which src Verdict.Accepted =
+text which src (Ok unit) =
     accepted_text which (ups src) (downs src) (meant_number (layout_in src) (ups src) (downs src) (body src))
     (form_in src)
-text which src (Verdict.Refused why) = refused_in which src why
+text which src (Err why) = refused_in which src why
 
 abbrev pub line_of : Which → List ℕ → List ℕ
 line_of which src = text which src (verdict_on src)
@@ -80,6 +82,11 @@ explanations input = list_of (line_of Which.Explaining) input
 
 abbrev pub outlines : List ℕ → List ℕ
 outlines input = list_of (line_of Which.Outlining) input
+
+abbrev pub status_of : Result Unit Failure → ℕ
+status_of (Ok unit) = 0
+status_of (Err Failure.Unread) = 1
+status_of (Err Failure.Unwritten) = 2
 
 pub record Buffers (input room : List ℕ) : Type 0 where
   pub any-record : 2 + longest ≤ length input

@@ -5,10 +5,8 @@
 // the contracts cite too. [P1]
 #![tactic(auto)]
 
-ghost use Rattle.std.specs.Prelude.{◌≡◌, ◌+◌, ◌≤◌, length};
-ghost use Rattle.refusal.specs.declared.Verdict.{Verdict};
+ghost use Rattle.std.specs.Prelude.{◌≡◌, ◌+◌, ◌≤◌, length, Err};
 ghost use Rattle.triangle.specs.Count.{largest, most_beats};
-ghost use Rattle.lookup.specs.Lent.{Counts};
 ghost use Rattle.schedule.specs.Schedule.{Schedule};
 ghost use Rattle.text.specs.Written.{Written};
 ghost use Rattle.stream.specs.Stream.{verdict_on};
@@ -16,17 +14,18 @@ ghost use Rattle.stream.specs.Exchange.{Inside};
 ghost use Rattle.stream.specs.Pass.{Prints, Passes};
 ghost use Rattle.lists.specs.declared.Which as of;
 ghost use Rattle.lists.specs.Listed.{outlined_text, apart, accepted_text, refused_in, line_of, widest};
-ghost use Rattle.lists.specs.Listed.{Buffers, Turned};
+ghost use Rattle.lists.specs.Listed.{Buffers, Turned, status_of};
 
-use record::Reading;
+use lookup::Table;
 use refusal::Refusal;
 use std::io::{Read, Write};
-use stream::{Front, Pass, Printed, Stream};
+use stream::{Failure, Front, Pass, Printed, Stream};
 use text::put;
-use triangle::SIDE;
 
-// What a list says of its records: their forms, why a beat of them moves, or their outlines.
-#[derive(Clone, Copy)]
+// What a list says of its records: their forms, why a beat of them moves, or their outlines. An enum and no trait: the
+// lists are closed, `line_of` of the definitions goes by the same three cases, and two functions alone look at them;
+// three types with a method each for both would be no plainer.
+#[derive(Clone, Copy, Debug, PartialEq, Eq)]
 pub enum Which {
     Packing,
     Explaining,
@@ -72,9 +71,10 @@ fn accepted(which: Which, t: u64, s: u64, number: u64, beats: &[u8], out: &mut [
     }
 }
 
-// Writes the line of a refused record where beats are explained: for 6 with the ones asked for and found. [X11]
+// Writes the line of a refused record where beats are explained: for 6 with the ones asked for and found. It goes by
+// the number, as its definition `refused_in` does. [X11]
 fn miscounted(src: &[u8], why: Refusal, out: &mut [u8]) -> usize
-    requires { (verdict_on src.now ≡ Verdict.Refused why) × (128 ≤ length out.old) }
+    requires { (verdict_on src.now ≡ Err why) × (128 ≤ length out.old) }
     ensures { Written 0 (refused_in of.Which.Explaining src.now why) out.old
         out.new result }
 {
@@ -88,7 +88,7 @@ fn miscounted(src: &[u8], why: Refusal, out: &mut [u8]) -> usize
 
 // Writes the lines of a refused record at the start of the lent bytes. [E4] [X11] [I6]
 fn refused(which: Which, src: &[u8], why: Refusal, out: &mut [u8]) -> usize
-    requires { (verdict_on src.now ≡ Verdict.Refused why) × (widest ≤ length out.old) }
+    requires { (verdict_on src.now ≡ Err why) × (widest ≤ length out.old) }
     ensures { Written 0 (refused_in which src.now why) out.old out.new result }
 {
     match which {
@@ -100,13 +100,12 @@ fn refused(which: Which, src: &[u8], why: Refusal, out: &mut [u8]) -> usize
 
 // Writes the lines of the record that a slice starts with at the start of the lent bytes, leaving the others. The
 // room takes its beats. [E4]
-fn list(which: Which, rows: &[[u64; SIDE]], src: &[u8], room: &mut [u8], out: &mut [u8]) -> Printed
-    requires { Counts rows.now × (length room.old ≡ most_beats) × (widest ≤ length out.old) }
+fn list(which: Which, table: Table<'_>, src: &[u8], room: &mut [u8], out: &mut [u8]) -> Printed
+    requires { (length room.old ≡ most_beats) × (widest ≤ length out.old) }
     ensures { Prints (line_of which) src.now out.old result out.new }
 {
-    let reading = reader::read_by(rows, src, room);
-    match reading {
-        Reading::Accepted(order) => {
+    match reader::read_by(table, src, room) {
+        Ok(order) => {
             let n = (order.t + order.s) as usize;
             let bytes = accepted(which, order.t, order.s, order.number, &room[..n], out);
             Printed {
@@ -115,28 +114,30 @@ fn list(which: Which, rows: &[[u64; SIDE]], src: &[u8], room: &mut [u8], out: &m
                 last: false,
             }
         }
-        Reading::Refused(why, consumed) => {
-            let number = why.number();
-            let bytes = refused(which, src, why, out);
+        Err(unread) => {
+            let number = unread.why.number();
+            let bytes = refused(which, src, unread.why, out);
             Printed {
-                consumed,
+                consumed: unread.consumed,
                 bytes,
-                last: number == 9,
+                last: number == 9, // `ending` of the crate `stream` goes by the number, as the manual does
             }
         }
     }
 }
 
-// Lists the records that a window starts with, one after the other, while their lines have room. [E16]
+// Lists the records that a window starts with, one after the other, while their lines have room. The loop goes by
+// records, whose lengths are read, and not by an index. What a list needs is lent one by one: a struct of the list, the
+// table and three borrows would be made in each public function for one call, no plainer. [E16]
 fn list_window(
     which: Which,
-    rows: &[[u64; SIDE]],
+    table: Table<'_>,
     src: &[u8],
     ended: bool,
     room: &mut [u8],
     text: &mut [u8],
 ) -> Pass
-    requires { Counts rows.now × (length room.old ≡ most_beats) }
+    requires { length room.old ≡ most_beats }
     ensures { Passes (line_of which) widest ended src.now text.old result text.new }
 {
     let mut at = 0;
@@ -157,7 +158,7 @@ fn list_window(
                 front: Front::Record,
             };
         }
-        let printed = list(which, rows, &src[at..], room, &mut text[put..]);
+        let printed = list(which, table, &src[at..], room, &mut text[put..]);
         if printed.last {
             return Pass {
                 consumed: at,
@@ -173,7 +174,7 @@ fn list_window(
 // Lists the records of the window, writes their lines out, and reads on where one waits for more input. [E16]
 fn turn<R: Read, W: Write>(
     which: Which,
-    rows: &[[u64; SIDE]],
+    table: Table<'_>,
     from: &mut R,
     to: &mut W,
     input: &mut [u8],
@@ -181,38 +182,47 @@ fn turn<R: Read, W: Write>(
     text: &mut [u8],
     state: Stream,
 ) -> Stream
-    requires { Counts rows.now × Buffers input.old room.old × Inside input.old state }
+    requires { Buffers input.old room.old × Inside input.old state }
     ensures { Turned which input.old text.old state input.new result }
 {
     let at = state.at;
     let have = state.have;
-    let pass = list_window(which, rows, &input[at..have], state.ended, room, text);
+    let pass = list_window(which, table, &input[at..have], state.ended, room, text);
     stream::exchange(from, to, input, text, state, pass)
 }
 
-// Turn after turn, to the end of the list. [E12]
+// Turn after turn, to the end of the list. A `for` over the turns would leave `fewer`, and the wrong program that its
+// contract refuses ("after a turn that goes on no turn is left", list_ends_too_early of `stream`), without a use. [E12]
 fn run<R: Read, W: Write>(
     which: Which,
-    rows: &[[u64; SIDE]],
+    table: Table<'_>,
     from: &mut R,
     to: &mut W,
     input: &mut [u8],
     room: &mut [u8],
     text: &mut [u8],
-) -> u64
-    requires { Counts rows.now × Buffers input.old room.old }
-    ensures { result ≤ 2 }
+) -> Result<(), Failure>
+    requires { Buffers input.old room.old }
 {
     let mut state = stream::start();
     let mut turns = u64::MAX;
     while 0 < turns {
-        state = turn(which, rows, from, to, input, room, text, state);
-        turns = stream::fewer(turns, state.going);
+        state = turn(which, table, from, to, input, room, text, state);
+        turns = stream::fewer(turns, state.end.is_none());
     }
-    if state.going {
-        return 1;
+    state.end.unwrap_or(Err(Failure::Unread))
+}
+
+// What listing answered, as a number: 0 where all was listed, 1 where reading failed and 2 where writing failed. It is
+// the status of the programs too.
+pub fn status(listed: Result<(), Failure>) -> u64
+    ensures { result ≡ status_of listed }
+{
+    match listed {
+        Ok(()) => 0,
+        Err(Failure::Unread) => 1,
+        Err(Failure::Unwritten) => 2,
     }
-    state.answer
 }
 
 // Lists the records that a window starts with, while their lines have room, where the rows of the table and the room
@@ -222,17 +232,25 @@ pub fn list_part(which: Which, src: &[u8], ended: bool, text: &mut [u8]) -> Pass
 {
     let mut room = [0u8; triangle::BEATS];
     let rows = triangle::rows();
-    list_window(which, &rows, src, ended, &mut room, text)
+    list_window(which, Table::lent(&rows), src, ended, &mut room, text)
 }
 
-// [E12] Lists the records of a reader to a writer, to the end of the input or after a 9. Answers 0 where all was
-// listed, 1 where reading failed and 2 where writing failed. [W2]
-pub fn list_all<R: Read, W: Write>(which: Which, from: &mut R, to: &mut W) -> u64
-    ensures { result ≤ 2 }
+// [E12] Lists the records of a reader to a writer, to the end of the input or after a 9, and answers whether all was
+// listed, or whether reading or writing failed. [W2]
+pub fn list_all<R: Read, W: Write>(which: Which, from: &mut R, to: &mut W) -> Result<(), Failure>
+    ensures { status_of result ≤ 2 }
 {
     let mut input = io::large_buffer();
     let mut room = [0u8; triangle::BEATS];
     let mut text = io::large_buffer();
     let rows = triangle::rows();
-    run(which, &rows, from, to, &mut input, &mut room, &mut text)
+    run(
+        which,
+        Table::lent(&rows),
+        from,
+        to,
+        &mut input,
+        &mut room,
+        &mut text,
+    )
 }

@@ -8,22 +8,40 @@ ghost use Rattle.lookup.specs.Lent.{Counts};
 
 use triangle::SIDE;
 
-// No rows of the table: what a call lends that keeps none.
-pub const NONE: [[u64; SIDE]; 0] = [];
+// The rows of the table that a program lends on, as far as they go: they have the counts.
+#[derive(Clone, Copy)]
+pub struct Table<'a> {
+    rows: &'a [[u64; SIDE]],
+    ghost counted: { Counts rows.now },
+}
 
-// N(t, s) of allowed counts: by one load where the lent rows have it, else by the matches of `triangle`, which
-// are proved to be the table. The matches are called in two places, so that they stay a call and the load does not
-// become one. [N7] [P13] [F2]
-pub fn look(rows: &[[u64; SIDE]], t: u64, s: u64) -> u64
-    requires { Counts rows.now × (t ≤ largest) × (s ≤ t) }
-    ensures { result ≡ N t s }
-{
-    if rows.len() == 0 {
-        return triangle::inside(t, s);
+impl<'a> Table<'a> {
+    // Rows that the caller keeps from call to call. [P13]
+    pub fn lent(rows: &'a [[u64; SIDE]]) -> Table<'a>
+        requires { Counts rows.now }
+    {
+        Table { rows }
     }
-    let row = t as usize;
-    if row < rows.len() {
-        return rows[row][s as usize];
+
+    // No rows: what a call lends that keeps none.
+    pub fn none() -> Table<'a> {
+        Table { rows: &[] }
     }
-    triangle::inside(t, s)
+
+    // N(t, s) of allowed counts: by one load where the lent rows have it, else by the matches of `triangle`, which
+    // are proved to be the table. The matches are called in two places, so that they stay a call and the load does not
+    // become one. [N7] [P13] [F2]
+    pub fn look(self, t: u64, s: u64) -> u64
+        requires { (t ≤ largest) × (s ≤ t) }
+        ensures { result ≡ N t s }
+    {
+        if self.rows.len() == 0 {
+            return triangle::inside(t, s);
+        }
+        let row = t as usize;
+        if row < self.rows.len() {
+            return self.rows[row][s as usize];
+        }
+        triangle::inside(t, s)
+    }
 }

@@ -7,8 +7,8 @@ use mathlib.Core.Path.{◌≡◌, refl, ap}
 use Prim.Native.Nat.{ℕ}
 use native.Mathlib.Omega.{arith}
 use lib.ListN.{get_or}
+use Rattle.std.proofs.Common.{Ok, Err}
 use Rattle.bounded.specs.Bounded.{every, first_from}
-use Rattle.refusal.specs.declared.Answer.{Answer}
 use Rattle.refusal.specs.declared.Refusal.TheVariants.{EmptyHand}
 use Rattle.triangle.specs.Count.{N}
 use Rattle.schedule.specs.Schedule.{ones, zeros, Schedule, is_schedule, Lists}
@@ -194,10 +194,10 @@ unfolding next has01 found first_from zeros shift
 start-1-1 = refl
 
 -- what the call answers: the number of 11010, and 1001, which has nothing in hand at place 2
-answers-1 : number_answer 3 2 (1 ∷ 1 ∷ 0 ∷ 1 ∷ 0 ∷ []) ≡ Answer.Value 1
+answers-1 : number_answer 3 2 (1 ∷ 1 ∷ 0 ∷ 1 ∷ 0 ∷ []) ≡ Ok 1
 unfolding N every first_from ones zeros is_schedule shift found has01 moves_next next steps changed
 answers-1 = refl
 
-answers-5 : number_answer 2 2 (1 ∷ 0 ∷ 0 ∷ 1 ∷ []) ≡ Answer.Refused (EmptyHand 2)
+answers-5 : number_answer 2 2 (1 ∷ 0 ∷ 0 ∷ 1 ∷ []) ≡ Err (EmptyHand 2)
 unfolding first_from ones zeros
 answers-5 = refl

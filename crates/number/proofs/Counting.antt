@@ -1,33 +1,38 @@
 -- The number of a form from its beats: one turn of the loop after the leading ones and zeros, on plain values. The
 -- beats need not be a schedule: each is tested before it is counted.
+--     count_some         counts have a form
 --     sized-parts, parts-sized     what the test of the sizes says
 --     level-parts        what the test of the leading ones and zeros says
---     no-rank            what is said of beats that are no schedule
---     ranked             what the last test of the ones says of the whole
 --     front i b          the beats before i, last first
 --     goes_parts         what the test of a beat says
 --     goes_on_lem        every beat of a schedule passes it
 --     Counted            ups, downs and number are the counts and the place of the beats before i, which play; a
 --                        beat stands after zeros, and a 0 only where these are not the first
---     front-level        the leading ones and zeros of a schedule pass their test
---     counted-front      they are counted
 --     counted-turn       one beat more
 --     counted-all, counted-short      at the end it is the number of the form, if the ones are t
+--     past b x           the beats from x on, as the loop reads them
+--     turn-fails, turn-counted, turn-within       of a turn there: a beat that fails its test, and one that is counted
+--     end-ranks, end-short       and past the last of them, if the ones are t or are not
 --     flat-turned        ones and then no more zeros play
+--     lead-within        where the leading ones and zeros end, which two scans find
+--     lead-fails         those of a schedule pass their test
+--     counted-front      and are counted
 -- Assumes nothing.
-use mathlib.Core.Bool.{Bool, true, false, ◌&&◌, and-eq-true_iff}
+use mathlib.Core.Bool.{true, false, ◌&&◌, and-eq-true_iff, true≢false}
 use mathlib.Core.List.{List, [], ◌∷◌, reverse, reverse-append}
 use mathlib.Core.Logic.{◌≢◌}
 use mathlib.Core.Path.{◌≡◌, refl, ◌∙◌, ap, ap₂, sym, subst}
-use Prim.Native.Nat.{ℕ, zero, suc, pred, ◌+◌, ◌-◌, ◌*◌, ◌≤◌, ◌<◌}
+use Prim.Native.Nat.{ℕ, zero, suc, pred, ◌+◌, ◌-◌, ◌*◌, ◌^◌, ◌≤◌, ◌<◌}
 use native.Mathlib.Numerals.{add-one}
 use native.Mathlib.Omega.{arith}
-use borrow.Author.Tests.{ltb-true, leb-true, eqb-true, eqb-false, lt-ltb, le-leb, eq-eqb}
+use borrow.Author.Tests.{ltb-true, leb-true, eqb-true, lt-ltb, le-leb, eq-eqb}
 use lib.Dec.{leb, ltb, eqb}
-use lib.ListN.{length, get_or, take}
-use lib.Seq.{take-suc, take_all}
+use lib.ListN.{length, get_or, take, drop}
+use lib.Seq.{take-suc, take_all, get_or-drop}
+use Rattle.std.proofs.Common.{length-drop}
 use Rattle.triangle.specs.Count.{N, largest}
 use Rattle.triangle.proofs.Count.{N-pos}
+use Rattle.triangle.proofs.Rule.{N-fits}
 use Rattle.counts.specs.Counts.{Allowed}
 use Rattle.schedule.specs.Schedule.{ones, zeros, Schedule}
 use Rattle.schedule.proofs.Hand.{
@@ -45,7 +50,8 @@ use Rattle.schedule.proofs.Hand.{
   zeros-turn,
 }
 use Rattle.schedule.proofs.Tally.{prefix-up, prefix-down}
-use Rattle.schedule.proofs.Skipping.{Skips}
+use Rattle.schedule.specs.Skip.{skipped}
+use Rattle.schedule.proofs.Skipping.{Skips, skipped-skips}
 use Rattle.circle.proofs.Shape.{ups, downs, shape-plays, shape-ones, shape-zeros, turn-ups, turn-downs}
 use Rattle.circle.proofs.Rank.{raise, rank, rank_of, rank_below}
 use Rattle.circle.proofs.Advance.{flat, flat-ones, flat-zeros, flat-rank}
@@ -54,6 +60,9 @@ use Rattle.number.specs.Ranking.{is_sized, is_level, goes_on, Ranks}
 use Rattle.number.proofs.Places.{place_of, place-zero, place-more, place-some, number-place}
 use Rattle.number.proofs.Places.{raise-place, raise-more}
 use Rattle.number.proofs.Rising.{split-take}
+
+pub count_some : (p q : ℕ) → q ≤ p → 0 < N p q
+count_some p q h = N-pos p q h
 
 -- the test of the sizes
 module _ (t s : ℕ) (b : List ℕ) where
@@ -65,20 +74,6 @@ module _ (t s : ℕ) (b : List ℕ) where
 
   pub parts-sized : Allowed t s → length b ≡ t + s → is_sized t s b ≡ true
   parts-sized a e = simp (le-leb t largest a.0, le-leb s t a.1, eq-eqb (length b) (t + s) e)
-
-pub no-rank : {t s : ℕ} {b : List ℕ} {whole : Bool} (n : ℕ) → whole ≡ false → (Allowed t s → Schedule t s b → ⊥)
-    → Ranks t s b whole n
-no-rank {t} {s} {b} {whole} n e wrong = subst (λ (q : Bool). Ranks t s b q n) (sym e) wrong
-
--- the last test: whether the ones are as many as named
-pub ranked : {t s : ℕ} {b : List ℕ} {n : ℕ} (u v : ℕ)
-    → (u ≡ v → Allowed t s × Schedule t s b × (n ≡ number_of t s b)) → (u ≢ v → Schedule t s b → ⊥)
-    → Ranks t s b (eqb u v) n
-ranked {t} {s} {b} {n} u v right wrong = by (eqb u v) refl
-  where
-    by : (q : Bool) → eqb u v ≡ q → Ranks t s b q n
-    by true e = right (eqb-true u v e)
-    by false e = λ a p. wrong (eqb-false u v e) p
 
 -- the test of the leading ones and zeros
 pub level-parts : (t p q : ℕ) → is_level t p q ≡ true → (p ≤ t) × (q ≤ p)
@@ -232,6 +227,72 @@ module _ {t : ℕ} {b : List ℕ} {i p q number : ℕ} (c : Counted t b i p q nu
   pub counted-short : length b ≤ i → p ≢ t → {s : ℕ} → Schedule t s b → ⊥
   counted-short h few r = few (omega (arith, c.ups, front-ones b i, ap ones (take_all i b h), r.taken))
 
+-- the beats from the place x on, as the loop reads them
+abbrev past : List ℕ → ℕ → List ℕ
+past b x = take (length b - x) (drop x b)
+
+past-is : (b : List ℕ) (x : ℕ) → past b x ≡ drop x b
+past-is b x = take_all (length b - x) (drop x b) (omega (arith, length-drop x b))
+
+past-long : (b : List ℕ) (x : ℕ) → length (past b x) ≡ length b - x
+past-long b x = ap length (past-is b x) ∙ length-drop x b
+
+-- a turn of the loop, at the beat after x and i more
+module _
+    {t : ℕ}
+    {b : List ℕ}
+    (x i : ℕ)
+    {p q number beat : ℕ}
+    (c : Counted t b (x + i) p q number)
+    (h : i < length (past b x))
+    (e : beat ≡ get_or (past b x) i 0)
+  where
+    inside : x + i < length b
+    inside = omega (arith, past-long b x)
+
+    here : beat ≡ get_or b (x + i) 0
+    here = e ∙ ap (λ (l : List ℕ). get_or l i 0) (past-is b x) ∙ get_or-drop x b i 0
+
+    pub turn-fails : {s : ℕ} → goes_on t p q beat ≡ false → Schedule t s b → ⊥
+    turn-fails wrong r =
+        true≢false (sym (counted-goes c r inside) ∙ ap (goes_on t p q) (sym here) ∙ wrong)
+
+    module _ {grown : ℕ} (fits : goes_on t p q beat ≡ true) (g : grown ≡ beat * (N (p + beat) (q - 1) - 1)) where
+      pub turn-counted : Counted t b (x + (i + 1)) (p + beat) (q + (1 - beat)) (number + grown)
+      turn-counted =
+          let more : x + i + 1 ≡ x + (i + 1) = omega arith in
+          subst (λ (k : ℕ). Counted t b k (p + beat) (q + (1 - beat)) (number + grown)) more
+          (counted-turn c inside beat grown here fits g)
+
+      pub turn-within : t ≤ largest → number + grown < 2 ^ 64
+      turn-within a =
+          omega (
+            arith,
+            counted-below turn-counted,
+            N-fits (p + beat) (q + (1 - beat)) (omega (arith, turn-counted.few)),
+          )
+
+-- past the last beat
+module _
+    {t : ℕ}
+    {b : List ℕ}
+    (x i : ℕ)
+    {p q number : ℕ}
+    (c : Counted t b (x + i) p q number)
+    (end : length (past b x) ≤ i)
+  where
+    over : length b ≤ x + i
+    over = omega (arith, past-long b x)
+
+    pub end-ranks : {s : ℕ} → is_sized t s b ≡ true → p ≡ t → Ranks t s b true number
+    end-ranks {s} sized all =
+        let size = sized-parts t s b sized in
+        let right = counted-all c over all size.1 in
+        (size.0, right.0, right.1)
+
+    pub end-short : p ≢ t → {s : ℕ} → Schedule t s b → ⊥
+    end-short few r = counted-short c over few r
+
 -- ones and then no more zeros play
 pub flat-turned : (p q : ℕ) → q ≤ p → Turned (flat p q)
 unfolding plays ones zeros
@@ -240,34 +301,53 @@ flat-turned p q h =
     (turned 0 (ups p (downs q [])) [] (omega arith) start (shape-plays p q (p - q) [] (omega arith)))
 
 -- the leading ones and zeros, which two scans find
-module _ {t : ℕ} {b : List ℕ} {y x : ℕ} (sy : Skips b 0 1 y) (sx : Skips b y 0 x) where
-  pub front-level : {s : ℕ} → Schedule t s b → is_level t y (x - y) ≡ true
+module _ (b : List ℕ) {y x : ℕ} (up : y ≡ skipped b 0 1) (rise : x ≡ skipped b y 0) where
+  sy : Skips b 0 1 y
+  sy = skipped-skips (omega arith) up
+
+  sx : Skips b y 0 x
+  sx = skipped-skips sy.high rise
+
+  pub lead-within : (y ≤ x) × (x ≤ length b)
+  lead-within = (sx.low, sx.high)
+
+  pub lead-fails : {t s : ℕ} → is_level t y (x - y) ≡ false → Schedule t s b → ⊥
   unfolding ones zeros
-  front-level p =
+  lead-fails {t} e p =
       let lead = split-take sy sx in
       let ups-are : y ≡ ones (take x b) = omega (arith, ap ones lead, shape-ones y (x - y) []) in
       let downs-are : x - y ≡ zeros (take x b) = omega (arith, ap zeros lead, shape-zeros y (x - y) []) in
+      let fits : is_level t y (x - y) ≡ true =
       simp (
         le-leb y t (omega (arith, ups-are, ones-take b x, p.taken)),
         le-leb (x - y) y (omega (arith, ups-are, downs-are, p.ahead x sx.high)),
-      )
+      ) in
+      true≢false (sym fits ∙ e)
 
-  pub counted-front : y ≤ t → x - y ≤ y → (n : ℕ) → n ≡ N y (x - y) - 1 → Counted t b x y (x - y) n
-  counted-front few h n e =
-      let at : front x b ≡ flat y (x - y) =
-      ap reverse (split-take sy sx) ∙ turn-ups y (downs (x - y) []) [] ∙ turn-downs (x - y) [] (ups y []) in
-      let first : rank (front x b) ≡ 0 = ap rank at ∙ flat-rank y (x - y) in
+  pub counted-front : {t n : ℕ} → is_level t y (x - y) ≡ true → n ≡ N y (x - y)
+      → Counted t b (x + 0) y (x - y) (n - 1)
+  counted-front {t} {n} e all =
+      let lead = level-parts t y (x - y) e in
+      let at : front (x + 0) b ≡ flat y (x - y) =
+      ap (λ (i : ℕ). front i b) none
+      ∙ ap reverse (split-take sy sx)
+      ∙ turn-ups y (downs (x - y) []) []
+      ∙ turn-downs (x - y) [] (ups y []) in
+      let first : rank (front (x + 0) b) ≡ 0 = ap rank at ∙ flat-rank y (x - y) in
       record {
-        inside = sx.high;
-        played = rw at (flat-turned y (x - y) h);
-        few = few;
+        inside = omega (arith, sx.high);
+        played = rw at (flat-turned y (x - y) lead.1);
+        few = lead.0;
         ups = rw at (sym (flat-ones y (x - y)));
         downs = rw at (sym (flat-zeros y (x - y)));
-        value = omega (arith, e, N-pos y (x - y) h) ∙ place-zero (N y (x - y)) (rank (front x b)) first;
-        some = λ k l. by (x - y) refl k l;
-        rises = λ k z. absurd (sx.stop k z);
+        value = omega (arith, all, N-pos y (x - y) lead.1) ∙ place-zero (N y (x - y)) (rank (front (x + 0) b)) first;
+        some = λ k l. by (x - y) refl (omega arith) (rw none at l);
+        rises = λ k z. absurd (sx.stop (omega arith) (rw none at z));
       }
     where
+      none : x + 0 ≡ x
+      none = omega arith
+
       -- a beat after no zeros is neither a 0 nor a 1
       by : (d : ℕ) → x - y ≡ d → x < length b → get_or b x 0 ≤ 1 → 1 ≤ x - y
       by (suc d) e k l = omega arith

@@ -2,8 +2,7 @@
 -- only.
 --     number_answer     of a lent schedule: its number, or the check's refusal
 use Rattle.std.specs.Prelude.{List, ℕ}
-use Rattle.refusal.specs.declared.Answer.{Answer}
-use Rattle.refusal.specs.Answer.{answer}
+use Rattle.refusal.specs.Answer.{Answer, answer}
 use Rattle.schedule.specs.Check.{checked}
 use Rattle.number.specs.Number.{number_of}
 

@@ -5,10 +5,9 @@ use mathlib.Core.Path.{◌≡◌, refl, ap}
 use Prim.Native.Nat.{ℕ, ◌+◌, ◌≤◌}
 use native.Mathlib.Omega.{arith}
 use lib.ListN.{length, drop, get_or}
+use Rattle.std.proofs.Common.{Ok, Err}
 use Rattle.bounded.specs.Bounded.{first_from}
-use Rattle.refusal.specs.declared.Answer.{Answer}
 use Rattle.refusal.specs.declared.Refusal.TheVariants.{NotClosed, NoRoom, EmptyHand}
-use Rattle.refusal.specs.declared.Verdict.{Verdict}
 use Rattle.refusal.specs.Rows.{judge}
 use Rattle.schedule.specs.Schedule.{ones, zeros}
 use Rattle.tree.specs.Tree.{leaf, node}
@@ -165,35 +164,35 @@ unfolding text lines planted tree_of foremost parse grow
 printed-none = refl
 
 -- the orders: a closed schedule; 14 where t is not s, after the check's refusals; 12 after 14
-closed-10 : judge (closed_rows 1 1 (1 ∷ 0 ∷ [])) ≡ Verdict.Accepted
+closed-10 : judge (closed_rows 1 1 (1 ∷ 0 ∷ [])) ≡ Ok tt
 unfolding first_from ones zeros
 closed-10 = refl
 
-not-closed : judge (closed_rows 2 1 (1 ∷ 1 ∷ 0 ∷ [])) ≡ Verdict.Refused NotClosed
+not-closed : judge (closed_rows 2 1 (1 ∷ 1 ∷ 0 ∷ [])) ≡ Err NotClosed
 unfolding first_from ones zeros
 not-closed = refl
 
-hand-before-closed : judge (closed_rows 2 1 (0 ∷ 1 ∷ 1 ∷ [])) ≡ Verdict.Refused (EmptyHand 0)
+hand-before-closed : judge (closed_rows 2 1 (0 ∷ 1 ∷ 1 ∷ [])) ≡ Err (EmptyHand 0)
 unfolding first_from ones zeros
 hand-before-closed = refl
 
-room_fits : judge (outline_rows 1 1 (1 ∷ 0 ∷ []) 2) ≡ Verdict.Accepted
+room_fits : judge (outline_rows 1 1 (1 ∷ 0 ∷ []) 2) ≡ Ok tt
 unfolding first_from ones zeros text lines lines_of stem decimal digits planted tree_of foremost parse grow
 room_fits = refl
 
-room-short : judge (outline_rows 1 1 (1 ∷ 0 ∷ []) 1) ≡ Verdict.Refused NoRoom
+room-short : judge (outline_rows 1 1 (1 ∷ 0 ∷ []) 1) ≡ Err NoRoom
 unfolding first_from ones zeros text lines lines_of stem decimal digits planted tree_of foremost parse grow
 room-short = refl
 
-closed-before-room : judge (outline_rows 2 1 (1 ∷ 1 ∷ 0 ∷ []) 0) ≡ Verdict.Refused NotClosed
+closed-before-room : judge (outline_rows 2 1 (1 ∷ 1 ∷ 0 ∷ []) 0) ≡ Err NotClosed
 unfolding first_from ones zeros
 closed-before-room = refl
 
-answer-10 : outline_answer 1 1 (1 ∷ 0 ∷ []) (7 ∷ 7 ∷ 7 ∷ []) ≡ Answer.Value 2
+answer-10 : outline_answer 1 1 (1 ∷ 0 ∷ []) (7 ∷ 7 ∷ 7 ∷ []) ≡ Ok 2
 unfolding first_from ones zeros text lines lines_of stem decimal digits planted tree_of foremost parse grow
 answer-10 = refl
 
-answer-short : outline_answer 1 1 (1 ∷ 0 ∷ []) (7 ∷ []) ≡ Answer.Refused NoRoom
+answer-short : outline_answer 1 1 (1 ∷ 0 ∷ []) (7 ∷ []) ≡ Err NoRoom
 unfolding first_from ones zeros text lines lines_of stem decimal digits planted tree_of foremost parse grow
 answer-short = refl
 

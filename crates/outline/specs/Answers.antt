@@ -6,9 +6,8 @@
 --     outline_left    what is left in the lent text: the outline's at its start and the rest as it was; refused, what
 --                     was there [H6]
 use Rattle.std.specs.Prelude.{not, List, [], ◌∷◌, ◌++◌, ℕ, eqb, ltb, length, drop}
-use Rattle.refusal.specs.declared.Answer.{Answer}
 use Rattle.refusal.specs.declared.Refusal.TheVariants.{NotClosed, NoRoom}
-use Rattle.refusal.specs.Answer.{answer, left}
+use Rattle.refusal.specs.Answer.{Answer, answer, left}
 use Rattle.refusal.specs.Rows.{Row, ◌⇒◌, judge}
 use Rattle.schedule.specs.Check.{check_rows}
 use Rattle.outline.specs.Text.{printed}

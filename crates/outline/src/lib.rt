@@ -12,7 +12,7 @@ ghost use Rattle.outline.specs.Text.{under, printed};
 ghost use Rattle.outline.specs.Answers.{closed_rows, outline_rows, outline_answer, outline_left};
 ghost use Rattle.outline.specs.Writing.{part, ListAt, ListWritten, HeadingAt, HeadingWritten};
 
-use refusal::{Answer, Refusal, Verdict};
+use refusal::Refusal;
 use text::{numeral, put};
 use triangle::LARGEST;
 
@@ -26,7 +26,8 @@ struct Reached {
     byte: usize,
 }
 
-// Writes the `long` bytes from `from` on once more, from `to` on.
+// Writes the `long` bytes from `from` on once more, from `to` on. The library's `copy_within` was tried and proves; a
+// call of C then needs 6,504 bytes of stack, where the header promises 6,000.
 fn repeat(text: &mut [u8], from: usize, long: usize, to: usize)
     requires { (from + long ≤ to) × (to + long ≤ length text.old) }
     ensures { Written to (part text.old from long) text.old text.new
@@ -58,7 +59,9 @@ fn line(text: &mut [u8], parent: usize, long: usize, place: u64, start: usize) -
 }
 
 // Writes the lines of a list of headings, under the number of the heading that carries it, which stands in the text
-// before them. Calls `heading` for each, which calls this for the list that it carries. [F6] [H15]
+// before them. Calls `heading` for each, which calls this for the list that it carries. The loop goes by headings.
+// Where a number stands, and how far was read, go in as numbers of their own: as structs they were tried, and a call
+// of C needed 7,024 bytes of stack, where the header promises 6,000. [F6] [H15]
 #[cycle(heading_list)]
 fn list(
     beats: &[u8],
@@ -137,46 +140,33 @@ fn fits(beats: &[u8], room: usize) -> bool
 }
 
 // The refusals of a schedule that is to be printed: 1 to 6, then 14. [P13] [H7]
-pub fn closed(t: u64, s: u64, beats: &[u8]) -> Verdict
+pub fn closed(t: u64, s: u64, beats: &[u8]) -> Result<(), Refusal>
     ensures { result ≡ judge (closed_rows t s beats.now) }
 {
-    let verdict = schedule::check(t, s, beats);
-    match verdict {
-        Verdict::Refused(why) => Verdict::Refused(why),
-        Verdict::Accepted => {
-            if t != s {
-                return Verdict::Refused(Refusal::NotClosed);
-            }
-            Verdict::Accepted
-        }
+    schedule::check(t, s, beats)?;
+    if t != s {
+        return Err(Refusal::NotClosed);
     }
+    Ok(())
 }
 
 // The refusals of a schedule that is to be printed in so many bytes: 1 to 6, 14, then 12. Writes nothing. [P13] [H7]
-pub fn printable(t: u64, s: u64, beats: &[u8], room: usize) -> Verdict
+pub fn printable(t: u64, s: u64, beats: &[u8], room: usize) -> Result<(), Refusal>
     ensures { result ≡ judge (outline_rows t s beats.now room) }
 {
-    let verdict = closed(t, s, beats);
-    match verdict {
-        Verdict::Refused(why) => Verdict::Refused(why),
-        Verdict::Accepted => {
-            if fits(beats, room) {
-                return Verdict::Accepted;
-            }
-            Verdict::Refused(Refusal::NoRoom)
-        }
+    closed(t, s, beats)?;
+    if fits(beats, room) {
+        return Ok(());
     }
+    Err(Refusal::NoRoom)
 }
 
 // Writes the text of the outline of a closed schedule at the start of the lent text, and answers its length. Refuses 1
 // to 6, then 14, 12; a refusal changes nothing. [D1a] [H6]
-pub fn outline(t: u64, s: u64, beats: &[u8], text: &mut [u8]) -> Answer
+pub fn outline(t: u64, s: u64, beats: &[u8], text: &mut [u8]) -> Result<u64, Refusal>
     ensures value { result ≡ outline_answer t s beats.now text.old }
     ensures text_after { text.new ≡ outline_left t s beats.now text.old }
 {
-    let verdict = printable(t, s, beats, text.len());
-    match verdict {
-        Verdict::Refused(why) => Answer::Refused(why),
-        Verdict::Accepted => Answer::Value(print(beats, text) as u64),
-    }
+    printable(t, s, beats, text.len())?;
+    Ok(print(beats, text) as u64)
 }

@@ -6,9 +6,9 @@ use mathlib.Core.Path.{◌≡◌, refl, ap}
 use Prim.Native.Nat.{ℕ, zero, suc, ◌≤◌}
 use native.Mathlib.Omega.{arith}
 use lib.ListN.{length, drop, take, get_or}
+use Rattle.std.proofs.Common.{Some, None, Ok, Err}
 use Rattle.refusal.specs.declared.Refusal.{Refusal}
 use Rattle.refusal.specs.declared.Refusal.TheVariants.{TooManyTasks, WrongLength, NoSuchOutline}
-use Rattle.refusal.specs.declared.Verdict.{Verdict}
 use Rattle.refusal.specs.Answer.{refusal}
 use Rattle.refusal.specs.Rows.{judge}
 use Rattle.refusal.proofs.Theorems.{refused-number}
@@ -105,43 +105,43 @@ no-outline none s e = unfold headings in omega (arith, s)
 no-outline (heading p then r) s e = unfold text lines lines_of stem decimal digits in omega (arith, ap length e)
 
 -- the sizes: 1 before 3
-sizes-fit : judge (back_rows 1 2) ≡ Verdict.Accepted
+sizes-fit : judge (back_rows 1 2) ≡ Ok tt
 sizes-fit = refl
 
-sizes-200 : judge (back_rows 200 0) ≡ Verdict.Refused TooManyTasks
+sizes-200 : judge (back_rows 200 0) ≡ Err TooManyTasks
 sizes-200 = refl
 
-sizes-long : judge (back_rows 1 3) ≡ Verdict.Refused WrongLength
+sizes-long : judge (back_rows 1 3) ≡ Err WrongLength
 sizes-long = refl
 
 -- the way back: the line 1; no line; beats lent too short
-back-1 : Back 1 one_line (7 ∷ 7 ∷ []) Verdict.Accepted (1 ∷ 0 ∷ [])
+back-1 : Back 1 one_line (7 ∷ 7 ∷ []) (Ok tt) (1 ∷ 0 ∷ [])
 unfolding headings below text lines lines_of stem decimal digits schedule beats
 back-1 = found (alone then none) refl refl refl
 
-back_none : Back 1 [] (7 ∷ 7 ∷ []) (Verdict.Refused (NoSuchOutline 0)) (7 ∷ 7 ∷ [])
+back_none : Back 1 [] (7 ∷ 7 ∷ []) (Err (NoSuchOutline 0)) (7 ∷ 7 ∷ [])
 back_none = none refl no-outline wrong-0
 
-back-short : Back 1 one_line (7 ∷ []) (Verdict.Refused WrongLength) (7 ∷ [])
+back-short : Back 1 one_line (7 ∷ []) (Err WrongLength) (7 ∷ [])
 back-short = unfit refl
 
-back-refused : (why : Refusal) (b : List ℕ) → Back 1 one_line (7 ∷ 7 ∷ []) (Verdict.Refused why) b → ⊥
+back-refused : (why : Refusal) (b : List ℕ) → Back 1 one_line (7 ∷ 7 ∷ []) (Err why) b → ⊥
 unfolding headings below text lines lines_of stem decimal digits
 back-refused why b (none j f w) = f (alone then none) refl refl
 back-refused why b (unfit j) = omega (arith, ap refusal j, (refused-number why).0)
 
-back-taken : (b : List ℕ) → Back 1 [] (7 ∷ 7 ∷ []) Verdict.Accepted b → ⊥
+back-taken : (b : List ℕ) → Back 1 [] (7 ∷ 7 ∷ []) (Ok tt) b → ⊥
 back-taken b (found o j s e) = no-outline o s e
 
-back-later : (b : List ℕ) → Back 1 [] (7 ∷ 7 ∷ []) (Verdict.Refused (NoSuchOutline 1)) b → ⊥
+back-later : (b : List ℕ) → Back 1 [] (7 ∷ 7 ∷ []) (Err (NoSuchOutline 1)) b → ⊥
 back-later b (none j f w) = wrong-later w
 back-later b (unfit j) = omega (arith, ap refusal j)
 
-refused-kept : {n : ℕ} {x out b : List ℕ} {why : Refusal} → Back n x out (Verdict.Refused why) b → b ≡ out
+refused-kept : {n : ℕ} {x out b : List ℕ} {why : Refusal} → Back n x out (Err why) b → b ≡ out
 refused-kept (none j f w) = refl
 refused-kept (unfit j) = refl
 
-back-changed : Back 1 [] (7 ∷ 7 ∷ []) (Verdict.Refused (NoSuchOutline 0)) (1 ∷ 0 ∷ []) → ⊥
+back-changed : Back 1 [] (7 ∷ 7 ∷ []) (Err (NoSuchOutline 0)) (1 ∷ 0 ∷ []) → ⊥
 back-changed q = let clash : ◌≡◌ {A = ℕ} 1 7 = ap (λ (l : List ℕ). get_or l 0 0) (refused-kept q) in omega arith
 
 -- 2 stands in 1 2 3 from 1 on, and 3 does not
@@ -161,28 +161,20 @@ stood-imagined : Stood (1 ∷ 2 ∷ 3 ∷ []) 1 (3 ∷ []) true → ⊥
 stood-imagined (there rest e) = not-3 rest e
 
 -- the line 1 ends at 2, and without its line feed there is none
-lined-2 : Lined (49 ∷ 10 ∷ 7 ∷ []) 0 (49 ∷ []) 2
+lined-2 : Lined (49 ∷ 10 ∷ 7 ∷ []) 0 (49 ∷ []) (Some 2)
 lined-2 = line refl refl
 
 no-feed : (rest : List ℕ) → 49 ∷ [] ≡ (49 ∷ []) ++ 10 ∷ rest → ⊥
 no-feed rest e = omega (arith, ap length e)
 
-lined-none : Lined (49 ∷ []) 0 (49 ∷ []) 0
+lined-none : Lined (49 ∷ []) 0 (49 ∷ []) None
 lined-none = other no-feed
 
-lined-overlooked : Lined one_line 0 (49 ∷ []) 0 → ⊥
-lined-overlooked q = by 0 q refl
-  where
-    by : (end : ℕ) → Lined one_line 0 (49 ∷ []) end → end ≡ 0 → ⊥
-    by end (line l e) z = omega (arith, l, z)
-    by end (other f) z = f [] refl
+lined-overlooked : Lined one_line 0 (49 ∷ []) None → ⊥
+lined-overlooked (other f) = f [] refl
 
-lined-without-feed : Lined (49 ∷ []) 0 (49 ∷ []) 2 → ⊥
-lined-without-feed q = by 2 q refl
-  where
-    by : (end : ℕ) → Lined (49 ∷ []) 0 (49 ∷ []) end → end ≡ 2 → ⊥
-    by end (line l e) z = no-feed (drop end (49 ∷ [])) e
-    by end (other f) z = omega (arith, z)
+lined-without-feed : Lined (49 ∷ []) 0 (49 ∷ []) (Some 2) → ⊥
+lined-without-feed (line l e) = no-feed (drop 2 (49 ∷ [])) e
 
 -- the line 1 is read as a heading; it is not passed over, and 2 is not read for it
 reads-1 : Reads [] 1 1 one_line (alone then none) [] 0
@@ -243,21 +235,21 @@ heading-past-the-text : HeadingRead one_line 0 1 2 0 0 (7 ∷ 7 ∷ []) (1 ∷ 0
 heading-past-the-text q = omega (arith, q.within)
 
 -- a whole text, and one of which a line is missing
-found-whole : Found 1 one_line (1 ∷ 0 ∷ []) Verdict.Accepted
+found-whole : Found 1 one_line (1 ∷ 0 ∷ []) (Ok tt)
 unfolding headings below text lines lines_of stem decimal digits schedule beats
 found-whole = whole (alone then none) refl refl refl
 
-found-broken : Found 1 [] (7 ∷ 7 ∷ []) (Verdict.Refused (NoSuchOutline 0))
+found-broken : Found 1 [] (7 ∷ 7 ∷ []) (Err (NoSuchOutline 0))
 found-broken = broken no-outline wrong-0
 
-found-taken : (room : List ℕ) → Found 1 [] room Verdict.Accepted → ⊥
+found-taken : (room : List ℕ) → Found 1 [] room (Ok tt) → ⊥
 found-taken room (whole o s e r) = no-outline o s e
 
-found-refused : (k : ℕ) (room : List ℕ) → Found 1 one_line room (Verdict.Refused (NoSuchOutline k)) → ⊥
+found-refused : (k : ℕ) (room : List ℕ) → Found 1 one_line room (Err (NoSuchOutline k)) → ⊥
 unfolding headings below text lines lines_of stem decimal digits
 found-refused k room (broken f w) = f (alone then none) refl refl
 
-found-other-beats : Found 1 one_line (0 ∷ 1 ∷ []) Verdict.Accepted → ⊥
+found-other-beats : Found 1 one_line (0 ∷ 1 ∷ []) (Ok tt) → ⊥
 found-other-beats (whole o s e r) = by o s r
   where
     by : (o : Outline) → headings o ≡ 1 → 0 ∷ 1 ∷ [] ≡ schedule o → ⊥

@@ -12,8 +12,9 @@ use native.Mathlib.Decide.{dec_lt}
 use native.Mathlib.Omega.{arith}
 use lib.ListN.{length, get_or, take, drop, length-append, take-append-drop}
 use lib.Seq.{take_all, drop-cons, length-take-le, get_or_at, get_or-take}
+use Rattle.std.proofs.Common.{Err}
 use Rattle.refusal.specs.declared.Refusal.TheVariants.{NoSuchOutline}
-use Rattle.refusal.specs.declared.Verdict.{Verdict}
+use Rattle.refusal.specs.Answer.{Verdict}
 use Rattle.triangle.specs.Count.{largest}
 use Rattle.outline.specs.Outline.{Outline, headings}
 use Rattle.outline.specs.Text.{lines, text, outline_text}
@@ -31,7 +32,7 @@ no-rest o p y size e = same_rest o p [] 1 y [] tt size (e ∙ sym (append-nil (o
 
 pub surplus-wrong : {n : ℕ} {out c : List ℕ} {v : Verdict} (o : Outline) (z : ℕ) (y : List ℕ) → headings o ≡ n
     → n ≤ largest → length out ≡ n + n → Back n (outline_text o ++ z ∷ y) out v c
-    → (v ≡ Verdict.Refused (NoSuchOutline n)) × (c ≡ out)
+    → (v ≡ Err (NoSuchOutline n)) × (c ≡ out)
 surplus-wrong {n} {out} o z y size few fit u = back_one u (none (right-length n (length out) few fit) other wrong)
   where
     other : (p : Outline) → headings p ≡ n → outline_text o ++ z ∷ y ≡ outline_text p → ⊥
@@ -53,7 +54,7 @@ surplus-wrong {n} {out} o z y size few fit u = back_one u (none (right-length n 
         }
 
 pub nothing-wrong : {out c : List ℕ} {v : Verdict} (z : ℕ) (y : List ℕ) → length out ≡ 0 → Back 0 (z ∷ y) out v c
-    → (v ≡ Verdict.Refused (NoSuchOutline 0)) × (c ≡ out)
+    → (v ≡ Err (NoSuchOutline 0)) × (c ≡ out)
 unfolding headings lines text
 nothing-wrong z y fit u = surplus-wrong Outline.none z y refl (omega arith) fit u
 
@@ -113,7 +114,7 @@ module _ {n : ℕ} (o : Outline) (k : ℕ) (l : List ℕ) (size : headings o ≡
       omega arith
 
   pub short-wrong : {out c : List ℕ} {v : Verdict} → n ≤ largest → length out ≡ n + n → Back n (text front ++ l) out v c
-      → (v ≡ Verdict.Refused (NoSuchOutline k)) × (c ≡ out)
+      → (v ≡ Err (NoSuchOutline k)) × (c ≡ out)
   short-wrong {out} allowed fit u =
       back_one u
       (none (right-length n (length out) allowed fit) short-other
@@ -178,7 +179,7 @@ module _ {n : ℕ} (o : Outline) (k : ℕ) (l y : List ℕ) (size : headings o �
       omega arith
 
   pub odd-wrong : {out c : List ℕ} {v : Verdict} → n ≤ largest → length out ≡ n + n → Back n broken out v c
-      → (v ≡ Verdict.Refused (NoSuchOutline k)) × (c ≡ out)
+      → (v ≡ Err (NoSuchOutline k)) × (c ≡ out)
   odd-wrong {out} allowed fit u =
       back_one u
       (none (right-length n (length out) allowed fit) odd-other

@@ -15,6 +15,7 @@ use native.Mathlib.Numerals.{add-one}
 use native.Mathlib.Omega.{arith}
 use lib.ListN.{length, drop, set, length-append}
 use lib.Seq.{paste-zero}
+use Rattle.std.specs.Prelude.{Some, None}
 use Rattle.text.specs.Written.{Written}
 use Rattle.text.proofs.Writing.{written-put, written_then}
 use Rattle.outline.specs.Outline.{Outline, none, heading, schedule, beats}
@@ -95,19 +96,19 @@ going-none p x from left at before h = record {
 
 module _ {p x : List ℕ} {from left at : ℕ} {before : List ℕ} {byte beat lines place : ℕ} {after : List ℕ}
     (fits : at ≤ length before) (g : Going p x from left at before byte beat lines place after) where
-  pub going_more : {end n : ℕ} {later : List ℕ} {r : Reached} → lines ≡ suc n → Lined x byte (under p place) end
-      → (end ≡ byte → ⊥) → HeadingRead x byte (end - 1 - byte) end n beat after later r
+  pub going_more : {end n : ℕ} {later : List ℕ} {r : Reached} → lines ≡ suc n → Lined x byte (under p place) (Some end)
+      → HeadingRead x byte (end - 1 - byte) end n beat after later r
       → Going p x from left at before r.byte r.beat r.left (place + 1) later
   unfolding schedule
-  going_more {end} {n} {later} {r} e found f h =
+  going_more {end} {n} {later} {r} e found h =
       let inner : Reads (under p place) 1 n (drop end x) h.list (drop r.byte x) r.left =
-      rw (line-part found f) at h.reads in
+      rw (line-part found) at h.reads in
       record {
         done = g.done ++ beats (heading h.list);
         written = written_then fits g.written h.written;
         joins = λ {rest} q.
             let after : Reads p (suc place) r.left (drop r.byte x) rest _ _ = rw (add-one place) at q in
-            let all = g.joins (rw (sym e) at (more (drop end x) (line-found found f).1 inner after)) in
+            let all = g.joins (rw (sym e) at (more (drop end x) (line-found found).1 inner after)) in
             record {
               list = all.list;
               reads = all.reads;
@@ -137,6 +138,6 @@ module _ {x : List ℕ} {parent long from left at : ℕ} {before : List ℕ} {by
       → ListRead x parent long from left at before after (record { byte = byte; beat = beat; left = lines })
   going-full e = going_end (rw e full)
 
-  pub going-stop : {end : ℕ} → Lined x byte (under (part x parent long) place) end → end ≡ byte
+  pub going-stop : Lined x byte (under (part x parent long) place) None
       → ListRead x parent long from left at before after (record { byte = byte; beat = beat; left = lines })
-  going-stop found e = going_end (stop (line-none found e))
+  going-stop found = going_end (stop (line-none found))

@@ -15,6 +15,7 @@ use Prim.Native.Nat.{ℕ, ◌+◌, ◌-◌, ◌≤◌, ◌<◌}
 use native.Mathlib.Omega.{arith}
 use lib.ListN.{length, take, drop, length-append, length-drop}
 use lib.Seq.{take_at}
+use Rattle.std.specs.Prelude.{Some, None}
 use Rattle.text.specs.Written.{Written}
 use Rattle.outline.specs.Text.{stem}
 use Rattle.outline.specs.Writing.{part}
@@ -51,35 +52,33 @@ written-front {p} {xs} {ys} {r} w =
     ap (take r) w.text ∙ take_at p (drop (0 + length p) xs) r (omega (arith, w.end))
 
 pub line-there : {x : List ℕ} {from : ℕ} {l : List ℕ} {end : ℕ}
-    → Stood x from (l ++ 10 ∷ []) true → end ≡ from + length l + 1 → Lined x from l end
+    → Stood x from (l ++ 10 ∷ []) true → end ≡ from + length l + 1 → Lined x from l (Some end)
 line-there {x} {from} {l} {end} (there rest e) h =
     let at : end ≡ from + length (l ++ 10 ∷ []) = omega (arith, length-append l (10 ∷ [])) in
     let after : rest ≡ drop end x = sym (ap (λ (k : ℕ). drop k x) at ∙ behind x from (l ++ 10 ∷ []) rest e) in
     line h (e ∙ append_assoc l (10 ∷ []) rest ∙ ap (λ (r : List ℕ). l ++ 10 ∷ r) after)
 
-pub line_other : {x : List ℕ} {from : ℕ} {l : List ℕ} → Stood x from (l ++ 10 ∷ []) false → Lined x from l from
+pub line_other : {x : List ℕ} {from : ℕ} {l : List ℕ} → Stood x from (l ++ 10 ∷ []) false → Lined x from l None
 line_other {x} {from} {l} (other f) = other (λ rest e. f rest (e ∙ sym (append_assoc l (10 ∷ []) rest)))
 
-pub line-found : {x : List ℕ} {from : ℕ} {l : List ℕ} {end : ℕ} → Lined x from l end → (end ≡ from → ⊥)
+pub line-found : {x : List ℕ} {from : ℕ} {l : List ℕ} {end : ℕ} → Lined x from l (Some end)
     → (end ≡ from + length l + 1) × (drop from x ≡ l ++ 10 ∷ drop end x)
-line-found (line e f) h = (e, f)
-line-found (other f) h = absurd (h refl)
+line-found (line e f) = (e, f)
 
-pub line-none : {x : List ℕ} {from : ℕ} {l : List ℕ} {end : ℕ} → Lined x from l end → end ≡ from
+pub line-none : {x : List ℕ} {from : ℕ} {l : List ℕ} → Lined x from l None
     → (rest : List ℕ) → drop from x ≡ l ++ 10 ∷ rest → ⊥
-line-none (line e f) h = absurd (omega arith)
-line-none (other f) h = f
+line-none (other f) = f
 
 -- a line that was found
-module _ {x : List ℕ} {from : ℕ} {l : List ℕ} {end : ℕ} (found : Lined x from l end) (h : end ≡ from → ⊥) where
+module _ {x : List ℕ} {from : ℕ} {l : List ℕ} {end : ℕ} (found : Lined x from l (Some end)) where
   pub line-within : (from < end) × (end ≤ length x)
   line-within =
-      let q = line-found found h in (
+      let q = line-found found in (
         omega (arith, q.0),
         omega (arith, q.0, ap length q.1, length-append l (10 ∷ drop end x), length-drop from x),
       )
 
   pub line-part : part x from (end - 1 - from) ≡ l
   line-part =
-      let q = line-found found h in
+      let q = line-found found in
       ap (take (end - 1 - from)) q.1 ∙ take_at l (10 ∷ drop end x) (end - 1 - from) (omega (arith, q.0))

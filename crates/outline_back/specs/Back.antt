@@ -7,10 +7,10 @@
 --     Back            what the way back answers and leaves: the schedule of the outline of n lines whose text it is;
 --                     15, with the first wrong, missing or surplus line, exactly if no outline of n lines has this text
 --                     [H9] [H10] [R23]
-use Rattle.std.specs.Prelude.{not, List, [], ◌∷◌, ◌++◌, ◌≡◌, ℕ, ◌+◌, ◌≤◌, eqb, ltb, length, take}
+use Rattle.std.specs.Prelude.{not, List, [], ◌∷◌, ◌++◌, ◌≡◌, ℕ, ◌+◌, ◌≤◌, eqb, ltb, length, take, Ok, Err}
 use Rattle.refusal.specs.declared.Refusal.{Refusal}
 use Rattle.refusal.specs.declared.Refusal.TheVariants.{TooManyTasks, WrongLength, NoSuchOutline}
-use Rattle.refusal.specs.declared.Verdict.{Verdict}
+use Rattle.refusal.specs.Answer.{Verdict}
 use Rattle.refusal.specs.Rows.{Row, ◌⇒◌, judge}
 use Rattle.triangle.specs.Count.{largest}
 use Rattle.outline.specs.Outline.{Outline, headings, schedule}
@@ -31,10 +31,10 @@ abbrev pub back_rows : ℕ → ℕ → List Row
 back_rows n room = (ltb largest n ⇒ TooManyTasks) ∷ (not (eqb room (n + n)) ⇒ WrongLength) ∷ []
 
 pub data Back (n : ℕ) (x out : List ℕ) : Verdict → List ℕ → Type 0 where
-  found : (o : Outline) → judge (back_rows n (length out)) ≡ Verdict.Accepted → headings o ≡ n → x ≡ outline_text o
-      → Back n x out Verdict.Accepted (schedule o)
-  none : {k : ℕ} → judge (back_rows n (length out)) ≡ Verdict.Accepted
+  found : (o : Outline) → judge (back_rows n (length out)) ≡ Ok tt → headings o ≡ n → x ≡ outline_text o
+      → Back n x out (Ok tt) (schedule o)
+  none : {k : ℕ} → judge (back_rows n (length out)) ≡ Ok tt
       → ((o : Outline) → headings o ≡ n → x ≡ outline_text o → ⊥) → Wrong n x k
-      → Back n x out (Verdict.Refused (NoSuchOutline k)) out
-  unfit : {why : Refusal} → judge (back_rows n (length out)) ≡ Verdict.Refused why
-      → Back n x out (Verdict.Refused why) out
+      → Back n x out (Err (NoSuchOutline k)) out
+  unfit : {why : Refusal} → judge (back_rows n (length out)) ≡ Err why
+      → Back n x out (Err why) out

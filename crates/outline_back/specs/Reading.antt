@@ -1,6 +1,6 @@
 -- What the inner functions answer and leave. Definitions only.
 --     Stood x at p        whether p stands in x from at on
---     Lined x from l      whether the line l stands there with its line feed, and where it ends; `from` where not
+--     Lined x from l      whether the line l stands there with its line feed, and where it ends; None where not
 --     Reads p k n x o y m     reading a list of headings, the k-th under p first and at most n lines, finds o, and goes
 --                         on while the next line is the next of this list or of one below; it stops before y with m
 --                         lines left
@@ -8,9 +8,10 @@
 --                         text it is; or no outline of n lines has this text, and that line is wrong
 --     ListRead, HeadingRead     what a list of headings, and a heading after its own line, leave: the beats of what was
 --                         read, and nothing else; how far this came
-use Rattle.std.specs.Prelude.{Bool, true, false, List, ◌∷◌, ◌++◌, ◌≡◌, ℕ, suc, ◌+◌, ◌≤◌, length, drop}
+use Rattle.std.specs.Prelude.{Option, Some, None}
+use Rattle.std.specs.Prelude.{Bool, true, false, List, ◌∷◌, ◌++◌, ◌≡◌, ℕ, suc, ◌+◌, ◌≤◌, length, drop, Ok, Err}
 use Rattle.refusal.specs.declared.Refusal.TheVariants.{NoSuchOutline}
-use Rattle.refusal.specs.declared.Verdict.{Verdict}
+use Rattle.refusal.specs.Answer.{Verdict}
 use Rattle.text.specs.Written.{Written}
 use Rattle.outline.specs.Outline.{Outline, none, ◌then◌, heading, headings, schedule, beats}
 use Rattle.outline.specs.Text.{under, outline_text}
@@ -22,9 +23,9 @@ pub data Stood (x : List ℕ) (at : ℕ) (p : List ℕ) : Bool → Type 0 where
   there : (rest : List ℕ) → drop at x ≡ p ++ rest → Stood x at p true
   other : ((rest : List ℕ) → drop at x ≡ p ++ rest → ⊥) → Stood x at p false
 
-pub data Lined (x : List ℕ) (from : ℕ) (l : List ℕ) : ℕ → Type 0 where
-  line : {end : ℕ} → end ≡ from + length l + 1 → drop from x ≡ l ++ 10 ∷ drop end x → Lined x from l end
-  other : ((rest : List ℕ) → drop from x ≡ l ++ 10 ∷ rest → ⊥) → Lined x from l from
+pub data Lined (x : List ℕ) (from : ℕ) (l : List ℕ) : Option ℕ → Type 0 where
+  line : {end : ℕ} → end ≡ from + length l + 1 → drop from x ≡ l ++ 10 ∷ drop end x → Lined x from l (Some end)
+  other : ((rest : List ℕ) → drop from x ≡ l ++ 10 ∷ rest → ⊥) → Lined x from l None
 
 pub data Reads : (p : List ℕ) (k n : ℕ) (x : List ℕ) → Outline → (y : List ℕ) (m : ℕ) → Type 0 where
   full : {p : List ℕ} {k : ℕ} {x : List ℕ} → Reads p k 0 x none x 0
@@ -46,6 +47,6 @@ pub record HeadingRead (x : List ℕ) (number long from left at : ℕ) (before a
   pub written : Written at (beats (heading list)) before after r.beat
 
 pub data Found (n : ℕ) (x room : List ℕ) : Verdict → Type 0 where
-  whole : (o : Outline) → headings o ≡ n → x ≡ outline_text o → room ≡ schedule o → Found n x room Verdict.Accepted
+  whole : (o : Outline) → headings o ≡ n → x ≡ outline_text o → room ≡ schedule o → Found n x room (Ok tt)
   broken : {k : ℕ} → ((o : Outline) → headings o ≡ n → x ≡ outline_text o → ⊥) → Wrong n x k
-      → Found n x room (Verdict.Refused (NoSuchOutline k))
+      → Found n x room (Err (NoSuchOutline k))

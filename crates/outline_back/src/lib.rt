@@ -2,17 +2,24 @@
 // specs/Back; proofs/Theorems says that this way and that of the crate `outline` undo each other. [P1]
 #![tactic(auto)]
 
-ghost use Rattle.std.specs.Prelude.{List, ◌≡◌, ℕ, ◌+◌, ◌^◌, ◌≤◌, ◌<◌, length};
-ghost use Rattle.refusal.specs.declared.Verdict.{Verdict};
+ghost use Rattle.std.specs.Prelude.{List, ◌≡◌, ℕ, ◌+◌, ◌^◌, ◌≤◌, ◌<◌, length, Ok};
 ghost use Rattle.refusal.specs.Rows.{judge};
 ghost use Rattle.outline.specs.Text.{stem, under};
 ghost use Rattle.outline.specs.Writing.{part};
 ghost use Rattle.outline_back.specs.Back.{back_rows, Back};
 ghost use Rattle.outline_back.specs.Reading.{Stood, Lined, ListRead, HeadingRead, Found};
 
-use refusal::{Refusal, Verdict};
+use refusal::Refusal;
 
-// How far a text has been read and its schedule written, and how many lines are still to come.
+// Where the number of a heading stands in the text: its first byte, and how long it is.
+#[derive(Clone, Copy)]
+struct Number {
+    at: usize,
+    long: usize,
+}
+
+// How far a text has been read and its schedule written, and how many lines are still to come. It is not the type of
+// the same name in `outline`, which has no use for the lines: with them there, no function would be plainer.
 #[derive(Clone, Copy)]
 struct Reached {
     byte: usize,
@@ -25,17 +32,7 @@ fn stands(text: &[u8], at: usize, piece: &[u8]) -> bool
     requires { at ≤ length text.now }
     ensures { Stood text.now at piece.now result }
 {
-    if text.len() - at < piece.len() {
-        return false;
-    }
-    let mut i = 0;
-    while i < piece.len() {
-        if text[at + i] != piece[i] {
-            return false;
-        }
-        i += 1;
-    }
-    true
+    text[at..].starts_with(piece)
 }
 
 // How long the beginning of a number is under a parent's number of that length: a dot comes after it. The topmost have
@@ -51,184 +48,154 @@ fn stem_length(long: usize) -> usize
 }
 
 // Whether a line begins as those under a parent's number do.
-fn under_it(text: &[u8], parent: usize, long: usize, from: usize) -> bool
-    requires { (parent + long ≤ length text.now) × (from ≤ length text.now) }
-    ensures { Stood text.now from (stem (part text.now parent long)) result }
+fn under_it(text: &[u8], parent: Number, from: usize) -> bool
+    requires { (parent.at + parent.long ≤ length text.now) × (from ≤ length text.now) }
+    ensures { Stood text.now from (stem (part text.now parent.at parent.long)) result }
 {
-    if long == 0 {
+    if parent.long == 0 {
         return true;
     }
-    if !stands(text, from, &text[parent..parent + long]) {
+    if !stands(text, from, &text[parent.at..parent.at + parent.long]) {
         return false;
     }
-    stands(text, from + long, b".")
+    stands(text, from + parent.long, b".")
 }
 
-// Where the line of the heading at that place under a parent's number ends, if it stands in the text from `from` on;
-// `from` where another does, or none. No line is empty.
-fn line_end(text: &[u8], parent: usize, long: usize, place: u64, from: usize) -> usize
-    requires { (parent + long ≤ length text.now) × (from ≤ length text.now) }
-    ensures { Lined text.now from (under (part text.now parent long) place) result }
+// Where the line of the heading at that place under a parent's number ends, if it stands in the text from `from` on.
+fn line_end(text: &[u8], parent: Number, place: u64, from: usize) -> Option<usize>
+    requires { (parent.at + parent.long ≤ length text.now) × (from ≤ length text.now) }
+    ensures { Lined text.now from (under (part text.now parent.at parent.long) place) result }
 {
-    if !under_it(text, parent, long, from) {
-        return from;
+    if !under_it(text, parent, from) {
+        return None;
     }
-    let number = from + stem_length(long);
+    let number = from + stem_length(parent.long);
     let mut digits = [0u8; 20];
     let wide = text::decimal(place, &mut digits, 0);
     if !stands(text, number, &digits[..wide]) {
-        return from;
+        return None;
     }
     let feed = number + wide;
     if !stands(text, feed, b"\n") {
-        return from;
+        return None;
     }
-    feed + 1
+    Some(feed + 1)
 }
 
 // Reads the lines of a list of headings, under the number of the heading that carries it, and writes their beats. Calls
-// `heading` for each, which calls this for the list that it carries. [F6] [H15]
+// `heading` for each, which calls this for the list that it carries. The loop goes by headings. [F6] [H15]
 #[cycle(heading_list)]
-fn list(
-    text: &[u8],
-    parent: usize,
-    long: usize,
-    from: usize,
-    left: usize,
-    beats: &mut [u8],
-    at: usize,
-) -> Reached
-    requires { (parent + long ≤ length text.now) × (from ≤ length text.now)
-        × (at + (left + left) ≤ length beats.old) }
-    ensures { ListRead text.now parent long from left at beats.old beats.new
-        result }
+fn list(text: &[u8], parent: Number, from: Reached, beats: &mut [u8]) -> Reached
+    requires { (parent.at + parent.long ≤ length text.now) × (from.byte ≤ length text.now)
+        × (from.beat + (from.left + from.left) ≤ length beats.old) }
+    ensures { ListRead text.now parent.at parent.long from.byte from.left from.beat beats.old beats.new result }
 {
-    let mut byte = from;
-    let mut beat = at;
-    let mut lines = left;
+    let mut reached = from;
     let mut place: u64 = 1;
-    loop {
-        if lines == 0 {
+    while reached.left != 0 {
+        let Some(end) = line_end(text, parent, place, reached.byte) else {
             break;
-        }
-        let end = line_end(text, parent, long, place, byte);
-        if end == byte {
-            break;
-        }
-        let past = heading(text, byte, end - 1 - byte, end, lines - 1, beats, beat);
-        byte = past.byte;
-        beat = past.beat;
-        lines = past.left;
+        };
+        let number = Number {
+            at: reached.byte,
+            long: end - 1 - reached.byte,
+        };
+        let below = Reached {
+            byte: end,
+            beat: reached.beat,
+            left: reached.left - 1,
+        };
+        reached = heading(text, number, below, beats);
         place += 1;
     }
-    Reached {
-        byte,
-        beat,
-        left: lines,
-    }
+    reached
 }
 
 // Writes the beats of a heading whose own line was read, and of the list that it carries, from the line after its own
 // on: a 1, the list's, and a 0. [F6] [H15]
 #[cycle(heading_list)]
-fn heading(
-    text: &[u8],
-    number: usize,
-    long: usize,
-    from: usize,
-    left: usize,
-    beats: &mut [u8],
-    at: usize,
-) -> Reached
-    requires { (number + long ≤ length text.now) × (from ≤ length text.now)
-        × (at + (left + left) + 2 ≤ length beats.old) }
-    ensures { HeadingRead text.now number long from left at beats.old beats.new
-        result }
+fn heading(text: &[u8], number: Number, from: Reached, beats: &mut [u8]) -> Reached
+    requires { (number.at + number.long ≤ length text.now) × (from.byte ≤ length text.now)
+        × (from.beat + (from.left + from.left) + 2 ≤ length beats.old) }
+    ensures { HeadingRead text.now number.at number.long from.byte from.left from.beat beats.old beats.new result }
 {
-    beats[at] = 1;
-    let inner = list(text, number, long, from, left, beats, at + 1);
+    beats[from.beat] = 1;
+    let opened = Reached {
+        beat: from.beat + 1,
+        ..from
+    };
+    let inner = list(text, number, opened, beats);
     let end = inner.beat;
     beats[end] = 0;
     Reached {
-        byte: inner.byte,
         beat: end + 1,
-        left: inner.left,
+        ..inner
     }
 }
 
 // Reads a whole text of n lines; the room takes the schedule of its outline.
-fn read(n: usize, text: &[u8], room: &mut [u8]) -> Verdict
+fn read(n: usize, text: &[u8], room: &mut [u8]) -> Result<(), Refusal>
     requires { length room.old ≡ n + n }
     ensures { Found n text.now room.new result }
 {
-    let end = list(text, 0, 0, 0, n, room, 0);
+    let first = Reached {
+        byte: 0,
+        beat: 0,
+        left: n,
+    };
+    let end = list(text, Number { at: 0, long: 0 }, first, room);
     if end.left == 0 {
         if end.byte == text.len() {
-            return Verdict::Accepted;
+            return Ok(());
         }
     }
     let good = n - end.left;
-    Verdict::Refused(Refusal::NoSuchOutline(good as u64))
+    Err(Refusal::NoSuchOutline(good as u64))
 }
 
 // The refusals by size: 1, then 3.
-fn sized(n: u64, room: usize) -> Verdict
+fn sized(n: u64, room: usize) -> Result<(), Refusal>
     ensures { result ≡ judge (back_rows n room) }
 {
     if triangle::LARGEST < n {
-        return Verdict::Refused(Refusal::TooManyTasks);
+        return Err(Refusal::TooManyTasks);
     }
     if room as u64 != n + n {
-        return Verdict::Refused(Refusal::WrongLength);
+        return Err(Refusal::WrongLength);
     }
-    Verdict::Accepted
+    Ok(())
 }
 
 // Whether the text is the outline of n lines, to be read into beats of that length. Refuses 1, 3, then 15; writes
 // nothing. [H10]
-pub fn readable(n: u64, text: &[u8], out: &[u8]) -> Verdict
+pub fn readable(n: u64, text: &[u8], out: &[u8]) -> Result<(), Refusal>
     ensures { (b : List ℕ) × Back n text.now out.now result b }
 {
-    let size = sized(n, out.len());
-    match size {
-        Verdict::Refused(why) => Verdict::Refused(why),
-        Verdict::Accepted => {
-            let long = out.len();
-            let mut room = [0u8; triangle::BEATS];
-            read(n as usize, text, &mut room[..long])
-        }
-    }
+    sized(n, out.len())?;
+    let long = out.len();
+    let mut room = [0u8; triangle::BEATS];
+    read(n as usize, text, &mut room[..long])
 }
 
 // The way back for sizes that fit; the room is as long as the schedule, and takes it until the text is known to have
 // one.
-fn rebuild(n: usize, text: &[u8], room: &mut [u8], out: &mut [u8]) -> Verdict
-    requires { (judge (back_rows n (length out.old)) ≡ Verdict.Accepted)
+fn rebuild(n: usize, text: &[u8], room: &mut [u8], out: &mut [u8]) -> Result<(), Refusal>
+    requires { (judge (back_rows n (length out.old)) ≡ Ok tt)
         × (length room.old ≡ length out.old) }
     ensures { Back n text.now out.old result out.new }
 {
-    let verdict = read(n, text, room);
-    match verdict {
-        Verdict::Refused(why) => Verdict::Refused(why),
-        Verdict::Accepted => {
-            copying::copy(room, out);
-            Verdict::Accepted
-        }
-    }
+    read(n, text, room)?;
+    copying::copy(room, out);
+    Ok(())
 }
 
 // Writes the schedule of 2n beats whose outline has exactly this text. Refuses 1, 3, then 15, with the first wrong,
 // missing or surplus line; a refusal changes nothing. [D1a] [H9]
-pub fn schedule_of_outline(n: u64, text: &[u8], out: &mut [u8]) -> Verdict
+pub fn schedule_of_outline(n: u64, text: &[u8], out: &mut [u8]) -> Result<(), Refusal>
     ensures { Back n text.now out.old result out.new }
 {
-    let size = sized(n, out.len());
-    match size {
-        Verdict::Refused(why) => Verdict::Refused(why),
-        Verdict::Accepted => {
-            let long = out.len();
-            let mut room = [0u8; triangle::BEATS];
-            rebuild(n as usize, text, &mut room[..long], out)
-        }
-    }
+    sized(n, out.len())?;
+    let long = out.len();
+    let mut room = [0u8; triangle::BEATS];
+    rebuild(n as usize, text, &mut room[..long], out)
 }

@@ -9,6 +9,7 @@ use lists::Which;
 use std::io;
 use std::io::{ErrorKind, Read, Write};
 use std::process::ExitCode;
+use stream::Failure;
 
 // A stream that remembers why a call of it failed: list_all answers that reading or writing failed, and not why. An
 // interrupted call is made again, so it has not failed.
@@ -72,12 +73,11 @@ fn tell(rt: &HostRuntime, what: &str, failure: Option<io::Error>) {
 pub fn list_input(rt: &HostRuntime, which: Which, unread: &str, unwritten: &str) -> ExitCode {
     let mut from = Told::new(rt.stdin());
     let mut to = Told::new(rt.stdout());
-    let answer = lists::list_all(which, &mut from, &mut to);
-    if answer == 1 {
-        tell(rt, unread, from.failure);
+    let listed = lists::list_all(which, &mut from, &mut to);
+    match listed {
+        Ok(()) => {}
+        Err(Failure::Unread) => tell(rt, unread, from.failure),
+        Err(Failure::Unwritten) => tell(rt, unwritten, to.failure),
     }
-    if answer == 2 {
-        tell(rt, unwritten, to.failure);
-    }
-    ExitCode::from(answer as u8)
+    ExitCode::from(lists::status(listed) as u8)
 }

@@ -7,9 +7,10 @@ use mathlib.Core.Path.{◌≡◌, refl, ◌∙◌, sym}
 use Prim.Native.Nat.{ℕ, ◌-◌}
 use native.Mathlib.Omega.{arith}
 use lib.ListN.{replicate}
+use Rattle.std.proofs.Common.{Ok, Err}
 use Rattle.bounded.specs.Bounded.{every, first_from}
 use Rattle.refusal.specs.declared.Refusal.TheVariants.{NoRoom, CutShort, UnknownKind, NoSuchNumber}
-use Rattle.refusal.specs.declared.Verdict.{Verdict}
+use Rattle.refusal.specs.Rows.{judge}
 use Rattle.schedule.specs.Schedule.{ones, zeros, is_schedule}
 use Rattle.circle.specs.Step.{shift, found, has01, moves_next, next}
 use Rattle.circle.specs.Walk.{steps, changed}
@@ -19,18 +20,18 @@ use Rattle.record.specs.declared.layout.Layout.{Layout}
 use Rattle.record.specs.declared.layout.Numbering.{Numbering}
 use Rattle.record.specs.Layout.{layout_of}
 use Rattle.record.proofs.Cases.{long-5, cut-in-body}
-use Rattle.record.specs.declared.reading.Reading.{Reading}
+use Rattle.record.specs.Parts.{unread}
 use Rattle.reader.specs.Answers.{told, answer_by, left_by, read_answer_by, read_left_by, read_answer, read_left}
-use Rattle.reader.specs.Answers.{catalogued, Whole}
+use Rattle.reader.specs.Answers.{catalogued, Whole, first_rows, ordered, order_by, read_order}
 use Rattle.reader.specs.Earlier.{earlier_layout, earlier_answer, earlier_left, renumbered}
 
 -- the schedule goes into the first places of what is lent, and nothing where reading is refused
-leaves-form : left_by (layout_of 2) (5 ∷ 0 ∷ 2 ∷ 0 ∷ 3 ∷ 2 ∷ 168 ∷ []) Verdict.Accepted (7 ∷ 7 ∷ 7 ∷ 7 ∷ 7 ∷ 7 ∷ [])
+leaves-form : left_by (layout_of 2) (5 ∷ 0 ∷ 2 ∷ 0 ∷ 3 ∷ 2 ∷ 168 ∷ []) (Ok tt) (7 ∷ 7 ∷ 7 ∷ 7 ∷ 7 ∷ 7 ∷ [])
     ≡ 1 ∷ 0 ∷ 1 ∷ 0 ∷ 1 ∷ 7 ∷ []
 unfolding value_of tabulate
 leaves-form = refl
 
-leaves-lent : left_by (layout_of 2) (5 ∷ 0 ∷ 2 ∷ 0 ∷ 3 ∷ 2 ∷ 168 ∷ []) (Verdict.Refused NoRoom) (7 ∷ 7 ∷ []) ≡ 7 ∷ 7 ∷
+leaves-lent : left_by (layout_of 2) (5 ∷ 0 ∷ 2 ∷ 0 ∷ 3 ∷ 2 ∷ 168 ∷ []) (Err NoRoom) (7 ∷ 7 ∷ []) ≡ 7 ∷ 7 ∷
     []
 leaves-lent = refl
 
@@ -60,33 +61,67 @@ too-little-room : Whole (5 ∷ 0 ∷ 2 ∷ 0 ∷ 3 ∷ 2 ∷ 168 ∷ []) 5 (repl
 too-little-room p = omega (arith, p.room)
 
 -- what reading answers: 10 as a record of kind 2, and refused; 101 by both numberings
-told-accepts : told 1 1 0 5 Verdict.Accepted ≡ Reading.Accepted (record { t = 1; s = 1; number = 0; consumed = 7 })
+told-accepts : told 1 1 0 5 (Ok tt) ≡ Ok (record { t = 1; s = 1; number = 0; consumed = 7 })
 told-accepts = refl
 
-told-refuses : told 1 1 0 5 (Verdict.Refused CutShort) ≡ Reading.Refused CutShort 0
+told-refuses : told 1 1 0 5 (Err CutShort) ≡ unread CutShort 0
 told-refuses = refl
 
-answer-accepts : answer_by Numbering.Catalogue (layout_of 2) (5 ∷ 0 ∷ 2 ∷ 0 ∷ 2 ∷ 1 ∷ 160 ∷ []) Verdict.Accepted
-    ≡ Reading.Accepted (record { t = 2; s = 1; number = 0; consumed = 7 })
+answer-accepts : answer_by Numbering.Catalogue (layout_of 2) (5 ∷ 0 ∷ 2 ∷ 0 ∷ 2 ∷ 1 ∷ 160 ∷ []) (Ok tt)
+    ≡ Ok (record { t = 2; s = 1; number = 0; consumed = 7 })
 unfolding value_of tabulate N every first_from ones zeros is_schedule shift found has01 moves_next next steps changed
 answer-accepts = refl
 
-answer-from-top : answer_by Numbering.FromTop (layout_of 2) (5 ∷ 0 ∷ 2 ∷ 0 ∷ 2 ∷ 1 ∷ 160 ∷ []) Verdict.Accepted
-    ≡ Reading.Accepted (record { t = 2; s = 1; number = 1; consumed = 7 })
+answer-from-top : answer_by Numbering.FromTop (layout_of 2) (5 ∷ 0 ∷ 2 ∷ 0 ∷ 2 ∷ 1 ∷ 160 ∷ []) (Ok tt)
+    ≡ Ok (record { t = 2; s = 1; number = 1; consumed = 7 })
 unfolding value_of tabulate N every first_from ones zeros is_schedule shift found has01 moves_next next steps changed
 answer-from-top = refl
 
-answer-refuses : answer_by Numbering.Catalogue (layout_of 2) (5 ∷ 0 ∷ 2 ∷ 0 ∷ 1 ∷ 1 ∷ 128 ∷ []) (Verdict.Refused NoRoom)
-    ≡ Reading.Refused NoRoom 0
+answer-refuses : answer_by Numbering.Catalogue (layout_of 2) (5 ∷ 0 ∷ 2 ∷ 0 ∷ 1 ∷ 1 ∷ 128 ∷ []) (Err NoRoom)
+    ≡ unread NoRoom 0
 answer-refuses = refl
 
 read-accepts : read_answer (5 ∷ 0 ∷ 2 ∷ 0 ∷ 1 ∷ 1 ∷ 128 ∷ []) (replicate most_beats 7)
-    ≡ Reading.Accepted (record { t = 1; s = 1; number = 0; consumed = 7 })
+    ≡ Ok (record { t = 1; s = 1; number = 0; consumed = 7 })
 unfolding value_of tabulate N every first_from ones zeros is_schedule shift found has01 moves_next next steps changed
 read-accepts = refl
 
-read-refuses : read_answer (5 ∷ 0 ∷ 2 ∷ 0 ∷ 1 ∷ 1 ∷ 128 ∷ []) [] ≡ Reading.Refused NoRoom 0
+read-refuses : read_answer (5 ∷ 0 ∷ 2 ∷ 0 ∷ 1 ∷ 1 ∷ 128 ∷ []) [] ≡ unread NoRoom 0
 read-refuses = refl
+
+-- the same with no bytes to pass over, and the refusals before L is looked at
+ordered-accepts : ordered 1 1 0 5 (Ok tt) ≡ Ok (record { t = 1; s = 1; number = 0; consumed = 7 })
+ordered-accepts = refl
+
+ordered-refuses : ordered 1 1 0 5 (Err CutShort) ≡ Err CutShort
+ordered-refuses = refl
+
+order-accepts : order_by (layout_of 2) (5 ∷ 0 ∷ 2 ∷ 0 ∷ 2 ∷ 1 ∷ 160 ∷ []) (Ok tt)
+    ≡ Ok (record { t = 2; s = 1; number = 0; consumed = 7 })
+unfolding value_of tabulate N every first_from ones zeros is_schedule shift found has01 moves_next next steps changed
+order-accepts = refl
+
+order-refuses : order_by (layout_of 2) (5 ∷ 0 ∷ 2 ∷ 0 ∷ 1 ∷ 1 ∷ 128 ∷ []) (Err UnknownKind) ≡ Err UnknownKind
+order-refuses = refl
+
+read-order-accepts : read_order (5 ∷ 0 ∷ 2 ∷ 0 ∷ 1 ∷ 1 ∷ 128 ∷ []) (replicate most_beats 7)
+    ≡ Ok (record { t = 1; s = 1; number = 0; consumed = 7 })
+unfolding value_of tabulate N every first_from ones zeros is_schedule shift found has01 moves_next next steps changed
+read-order-accepts = refl
+
+read-order-refuses : read_order (5 ∷ 0 ∷ 2 ∷ 0 ∷ 1 ∷ 1 ∷ 128 ∷ []) [] ≡ Err NoRoom
+read-order-refuses = refl
+
+first-accepts : judge (first_rows most_beats (5 ∷ 0 ∷ 2 ∷ 0 ∷ 1 ∷ 1 ∷ 128 ∷ [])) ≡ Ok tt
+unfolding value_of
+first-accepts = refl
+
+first-room : judge (first_rows (most_beats - 1) []) ≡ Err NoRoom
+first-room = refl
+
+first-cut : judge (first_rows most_beats (5 ∷ 0 ∷ 2 ∷ 0 ∷ 1 ∷ 1 ∷ [])) ≡ Err CutShort
+unfolding value_of
+first-cut = refl
 
 -- a record of (2,1) of a kind, with a number: 101 is number 0 in the catalogue and number 1 from 110 on
 abbrev numbered : ℕ → ℕ → List ℕ
@@ -94,16 +129,16 @@ numbered kind n = 12 ∷ 0 ∷ kind ∷ 0 ∷ 2 ∷ 1 ∷ n ∷ 0 ∷ 0 ∷ 0 �
 
 -- kind 1 with its first number, with its last, and with one more; kind 3 [K4]
 read_first : read_answer (numbered 1 0) (replicate most_beats 7)
-    ≡ Reading.Accepted (record { t = 2; s = 1; number = 1; consumed = 14 })
+    ≡ Ok (record { t = 2; s = 1; number = 1; consumed = 14 })
 unfolding value_of N every first_from ones zeros is_schedule shift found has01 moves_next next steps changed
 read_first = refl
 
 read-last : read_answer (numbered 1 1) (replicate most_beats 7)
-    ≡ Reading.Accepted (record { t = 2; s = 1; number = 0; consumed = 14 })
+    ≡ Ok (record { t = 2; s = 1; number = 0; consumed = 14 })
 unfolding value_of N every first_from ones zeros is_schedule shift found has01 moves_next next steps changed
 read-last = refl
 
-read-beyond : read_answer (numbered 1 2) (replicate most_beats 7) ≡ Reading.Refused NoSuchNumber 14
+read-beyond : read_answer (numbered 1 2) (replicate most_beats 7) ≡ unread NoSuchNumber 14
 unfolding value_of N every first_from ones zeros is_schedule shift found has01 moves_next next steps changed
 read-beyond = refl
 
@@ -112,7 +147,7 @@ unfolding value_of N every first_from ones zeros is_schedule shift found has01 m
 read-leaves-110 = refl
 
 read-3 : read_answer (numbered 3 1) (replicate most_beats 7)
-    ≡ Reading.Accepted (record { t = 2; s = 1; number = 1; consumed = 14 })
+    ≡ Ok (record { t = 2; s = 1; number = 1; consumed = 14 })
 unfolding value_of N every first_from ones zeros is_schedule shift found has01 moves_next next steps changed
 read-3 = refl
 
@@ -122,12 +157,12 @@ read-leaves-101 = refl
 
 -- by a layout, whatever the kind says
 by_layout : read_answer_by Numbering.Catalogue (layout_of 1) (numbered 3 0) (replicate most_beats 7)
-    ≡ Reading.Accepted (record { t = 2; s = 1; number = 1; consumed = 14 })
+    ≡ Ok (record { t = 2; s = 1; number = 1; consumed = 14 })
 unfolding value_of N every first_from ones zeros is_schedule shift found has01 moves_next next steps changed
 by_layout = refl
 
 by-no-layout : read_answer_by Numbering.Catalogue Layout.Unknown (numbered 3 0) (replicate most_beats 7)
-    ≡ Reading.Refused UnknownKind 14
+    ≡ unread UnknownKind 14
 unfolding value_of
 by-no-layout = refl
 
@@ -164,16 +199,16 @@ earlier-kind-3 : earlier_layout 3 ≡ Layout.Unknown
 earlier-kind-3 = refl
 
 earlier-accepts : earlier_answer (numbered 1 0) (replicate most_beats 7)
-    ≡ Reading.Accepted (record { t = 2; s = 1; number = 0; consumed = 14 })
+    ≡ Ok (record { t = 2; s = 1; number = 0; consumed = 14 })
 unfolding value_of N every first_from ones zeros is_schedule shift found has01 moves_next next steps changed
 earlier-accepts = refl
 
 earlier-packed : earlier_answer (5 ∷ 0 ∷ 2 ∷ 0 ∷ 2 ∷ 1 ∷ 160 ∷ []) (replicate most_beats 7)
-    ≡ Reading.Accepted (record { t = 2; s = 1; number = 1; consumed = 7 })
+    ≡ Ok (record { t = 2; s = 1; number = 1; consumed = 7 })
 unfolding value_of tabulate N every first_from ones zeros is_schedule shift found has01 moves_next next steps changed
 earlier-packed = refl
 
-earlier-refuses : earlier_answer (numbered 3 0) (replicate most_beats 7) ≡ Reading.Refused UnknownKind 14
+earlier-refuses : earlier_answer (numbered 3 0) (replicate most_beats 7) ≡ unread UnknownKind 14
 unfolding value_of
 earlier-refuses = refl
 

@@ -14,9 +14,10 @@ use Prim.Native.Nat.{ℕ, zero, suc, ◌+◌}
 use native.Mathlib.Decide.{ℕ_discrete}
 use lib.Dec.{ltb}
 use lib.ListN.{length}
+use Rattle.std.proofs.Common.{Ok, Err}
 use Rattle.refusal.specs.declared.Refusal.{Refusal}
 use Rattle.refusal.specs.declared.Refusal.TheVariants.{WrongSize, CutShort, UnknownKind, NoRoom}
-use Rattle.refusal.specs.declared.Verdict.{Verdict}
+use Rattle.refusal.specs.Answer.{Verdict}
 use Rattle.refusal.specs.Rows.{Row, ◌⇒◌, judge}
 use Rattle.refusal.proofs.Rows.{judge-refused, judge-accepted}
 use Rattle.triangle.specs.Count.{most_beats}
@@ -25,7 +26,7 @@ use Rattle.number.proofs.Theorems.{catalogue-number}
 use Rattle.record.specs.declared.layout.Layout.{Layout}
 use Rattle.record.specs.declared.layout.Numbering.{Numbering}
 use Rattle.record.specs.declared.reading.Order.{Order}
-use Rattle.record.specs.declared.reading.Reading.{Reading}
+use Rattle.record.specs.Parts.{Reading, unread}
 use Rattle.record.specs.Bytes.{value_of}
 use Rattle.record.specs.Layout.{layout_of, counts_at, is_unknown}
 use Rattle.record.specs.Parts as said
@@ -51,7 +52,7 @@ module _ (src out : List ℕ) where
   verdict-of by k e = sym (told-verdict _ _ _ _ _) ∙ ap said.verdict e
 
   -- accepted by a layout, with a number that counts from t ones then s zeros
-  module _ (k : Layout) (o : Order) (e : read_answer_by Numbering.FromTop k src out ≡ Reading.Accepted o) where
+  module _ (k : Layout) (o : Order) (e : read_answer_by Numbering.FromTop k src out ≡ Ok o) where
     abbrev t : ℕ
     t = ups_at (counts_at k) src
 
@@ -64,7 +65,7 @@ module _ (src out : List ℕ) where
     abbrev order : ℕ → Order
     order n = record { t = t; s = s; number = n; consumed = 2 + long src }
 
-    accepted : judge (read_rows_by k (length out) src) ≡ Verdict.Accepted
+    accepted : judge (read_rows_by k (length out) src) ≡ Ok tt
     accepted = verdict-of Numbering.FromTop k e
 
     known : is_unknown k ≡ false
@@ -77,14 +78,14 @@ module _ (src out : List ℕ) where
     is-order = ap order_of (sym (ap (answer_by Numbering.FromTop k src) accepted) ∙ e)
       where
         order_of : Reading → Order
-        order_of (Reading.Accepted other) = other
-        order_of (Reading.Refused why n) = o
+        order_of (Ok other) = other
+        order_of (Err u) = o
 
-    moved : read_answer_by Numbering.Catalogue k src out ≡ Reading.Accepted (renumbered o)
+    moved : read_answer_by Numbering.Catalogue k src out ≡ Ok (renumbered o)
     moved =
         ap (answer_by Numbering.Catalogue k src) accepted
-        ∙ ap (λ (n : ℕ). Reading.Accepted (order n)) (catalogue-number means.schedule)
-        ∙ ap (λ (other : Order). Reading.Accepted (renumbered other)) is-order
+        ∙ ap (λ (n : ℕ). Ok (order n)) (catalogue-number means.schedule)
+        ∙ ap (λ (other : Order). Ok (renumbered other)) is-order
 
   -- the rows before the kind's are the same for every layout
   abbrev front : List Row
@@ -95,22 +96,22 @@ module _ (src out : List ℕ) where
   back k = (is_unknown k ⇒ UnknownKind) ∷ kind_rows k src
 
   fronted : (why : Refusal) → ((why ≡ UnknownKind) → ⊥)
-      → judge (read_rows_by Layout.Unknown (length out) src) ≡ Verdict.Refused why
-      → (k : Layout) → judge (read_rows_by k (length out) src) ≡ Verdict.Refused why
+      → judge (read_rows_by Layout.Unknown (length out) src) ≡ Err why
+      → (k : Layout) → judge (read_rows_by k (length out) src) ≡ Err why
   fronted why n e k = by (judge front) refl
     where
       why_of : Verdict → Refusal
-      why_of Verdict.Accepted = why
-      why_of (Verdict.Refused other) = other
+      why_of (Ok unit) = why
+      why_of (Err other) = other
 
-      by : (v : Verdict) → judge front ≡ v → judge (read_rows_by k (length out) src) ≡ Verdict.Refused why
-      by Verdict.Accepted f =
+      by : (v : Verdict) → judge front ≡ v → judge (read_rows_by k (length out) src) ≡ Err why
+      by (Ok unit) f =
           absurd (n (ap why_of (sym e ∙ judge-accepted front (back Layout.Unknown) f)))
-      by (Verdict.Refused other) f =
+      by (Err other) f =
           judge-refused front (back k) other f ∙ sym (judge-refused front (back Layout.Unknown) other f) ∙ e
 
-  pub read-as-before : (o : Order) → earlier_answer src out ≡ Reading.Accepted o
-      → (read_answer src out ≡ Reading.Accepted (renumbered o)) × (read_left src out ≡ earlier_left src out)
+  pub read-as-before : (o : Order) → earlier_answer src out ≡ Ok o
+      → (read_answer src out ≡ Ok (renumbered o)) × (read_left src out ≡ earlier_left src out)
   read-as-before o e = elim (ℕ_discrete (kind_in src) 3) [
     | yes three ↦
         let unknown = ap (λ (kind : ℕ). is_unknown (earlier_layout kind)) three in
@@ -123,8 +124,8 @@ module _ (src out : List ℕ) where
   ]
 
   pub refused-as-before : (why : Refusal) (n : ℕ) → ((why ≡ UnknownKind) × (kind_in src ≡ 3) → ⊥)
-      → earlier_answer src out ≡ Reading.Refused why n
-      → (read_answer src out ≡ Reading.Refused why n) × (read_left src out ≡ earlier_left src out)
+      → earlier_answer src out ≡ unread why n
+      → (read_answer src out ≡ unread why n) × (read_left src out ≡ earlier_left src out)
   refused-as-before why n unless e = (
     ap (answer_by Numbering.Catalogue (layout_in src) src) after
         ∙ sym (ap (answer_by Numbering.FromTop (earlier_layout (kind_in src)) src) before)
@@ -133,10 +134,10 @@ module _ (src out : List ℕ) where
         ∙ sym (ap (λ (v : Verdict). left_by (earlier_layout (kind_in src)) src v out) before),
   )
     where
-      before : judge (read_rows_by (earlier_layout (kind_in src)) (length out) src) ≡ Verdict.Refused why
+      before : judge (read_rows_by (earlier_layout (kind_in src)) (length out) src) ≡ Err why
       before = verdict-of Numbering.FromTop (earlier_layout (kind_in src)) e
 
-      after : judge (read_rows_by (layout_in src) (length out) src) ≡ Verdict.Refused why
+      after : judge (read_rows_by (layout_in src) (length out) src) ≡ Err why
       after = elim (ℕ_discrete (kind_in src) 3) [
         | yes three ↦
             let none = ap (λ (kind : ℕ). judge (read_rows_by (earlier_layout kind) (length out) src)) (sym three) in
@@ -146,7 +147,7 @@ module _ (src out : List ℕ) where
             ∙ before
       ]
 
-  pub earlier-held : (o : Order) → kind_in src ≡ 1 → earlier_answer src out ≡ Reading.Accepted o
+  pub earlier-held : (o : Order) → kind_in src ≡ 1 → earlier_answer src out ≡ Ok o
       → o.number ≡ value_of (body src)
   earlier-held o one e =
       let laid = Layout.Numbered 4 Numbering.FromTop in

@@ -14,7 +14,7 @@ use native.Mathlib.Decide.{dec_lt, ℕ_discrete}
 use native.Mathlib.Omega.{arith}
 use borrow.Author.Tests.{eq-eqb, ne_eqb}
 use lib.ListN.{length}
-use Rattle.refusal.specs.declared.Verdict.{Verdict}
+use Rattle.std.proofs.Common.{Ok}
 use Rattle.refusal.specs.Rows.{judge}
 use Rattle.refusal.proofs.Rows.{judge-front, judge-back, both}
 use Rattle.triangle.specs.Count.{N}
@@ -46,7 +46,7 @@ module _ (at : ℕ) (src : List ℕ) where
   abbrev held : List ℕ
   held = body_at at src
 
-  pub numbered-facts : (by : Numbering) → judge (kind_rows (Layout.Numbered at by) src) ≡ Verdict.Accepted
+  pub numbered-facts : (by : Numbering) → judge (kind_rows (Layout.Numbered at by) src) ≡ Ok tt
       → (long src ≡ at + 8) × Allowed up down × (value_of held < N up down)
   numbered-facts by e =
       let exact : long src ≡ at + 8 =
@@ -60,21 +60,21 @@ module _ (at : ℕ) (src : List ℕ) where
     pub allowed : Allowed up down
     pub exact : length held ≡ bytes_for (up + down)
     pub clean : unused (up + down) held ≡ 0
-    pub taken : checked up down (unpacked (up + down) held) ≡ Verdict.Accepted
+    pub taken : checked up down (unpacked (up + down) held) ≡ Ok tt
 
-  pub beaten-facts : judge (kind_rows (Layout.Beaten at) src) ≡ Verdict.Accepted → Beaten
+  pub beaten-facts : judge (kind_rows (Layout.Beaten at) src) ≡ Ok tt → Beaten
   beaten-facts e = record { reaches = reaches; allowed = allowed; exact = exact; clean = clean; taken = taken }
     where
       reaches : at ≤ long src
       reaches = elim (dec_lt (long src) at) [ yes h ↦ both e (beaten-long at src h) | no h ↦ omega arith ]
 
-      tail : judge (count_rows up down ++ packed_rows up down held) ≡ Verdict.Accepted
+      tail : judge (count_rows up down ++ packed_rows up down held) ≡ Ok tt
       tail = sym (beaten-fits at src reaches) ∙ e
 
       allowed : Allowed up down
       allowed = counts-allowed up down (judge-front (count_rows up down) (packed_rows up down held) tail)
 
-      rows : judge (packed_rows up down held) ≡ Verdict.Accepted
+      rows : judge (packed_rows up down held) ≡ Ok tt
       rows = judge-back (count_rows up down) (packed_rows up down held) tail
 
       exact : length held ≡ bytes_for (up + down)
@@ -89,7 +89,7 @@ module _ (at : ℕ) (src : List ℕ) where
         | no m ↦ both rows (spoiled-bits up down held exact (ne_eqb (unused (up + down) held) 0 m))
       ]
 
-      taken : checked up down (unpacked (up + down) held) ≡ Verdict.Accepted
+      taken : checked up down (unpacked (up + down) held) ≡ Ok tt
       taken =
           let beats = unpacked (up + down) held in
           let whole = length-tabulate (up + down) (beat_at held) in
@@ -104,7 +104,7 @@ Held Layout.Unknown t s p b = ⊥
 
 module _ (src : List ℕ) where
   -- L of an accepted record reaches past its counts
-  pub kind-reaches : (k : Layout) → is_unknown k ≡ false → judge (kind_rows k src) ≡ Verdict.Accepted
+  pub kind-reaches : (k : Layout) → is_unknown k ≡ false → judge (kind_rows k src) ≡ Ok tt
       → counts_at k ≤ long src
   kind-reaches (Layout.Numbered at by) u e = omega (arith, (numbered-facts at src by e).0)
   kind-reaches (Layout.Beaten at) u e = (beaten-facts at src e).reaches
@@ -118,7 +118,7 @@ module _ (src : List ℕ) where
     pub held : Held k (ups_at (counts_at k) src) (downs_at (counts_at k) src) (body_at (counts_at k) src)
         (meant k (ups_at (counts_at k) src) (downs_at (counts_at k) src) (body_at (counts_at k) src))
 
-  pub kind-means : (k : Layout) → is_unknown k ≡ false → judge (kind_rows k src) ≡ Verdict.Accepted → Means k
+  pub kind-means : (k : Layout) → is_unknown k ≡ false → judge (kind_rows k src) ≡ Ok tt → Means k
   kind-means (Layout.Numbered at by) u e =
       let f = numbered-facts at src by e in
       let n = value_of (body_at at src) in
@@ -132,5 +132,5 @@ module _ (src : List ℕ) where
       record { allowed = f.allowed; schedule = (accepted-schedule t s beats f.taken).1; held = refl }
   kind-means Layout.Unknown u e = absurd (true≢false u)
 
-  pub read-means : (room : ℕ) → judge (read_rows room src) ≡ Verdict.Accepted → Means (layout_in src)
+  pub read-means : (room : ℕ) → judge (read_rows room src) ≡ Ok tt → Means (layout_in src)
   read-means room e = let f = read-facts room src e in kind-means (layout_in src) f.3 f.4

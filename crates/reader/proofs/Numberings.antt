@@ -7,7 +7,7 @@
 --                                         stays, 0 becomes the last, any other one less
 --     held_below           a number that is turned is below N(t, s) exactly if it was
 --     held-form            and then it is the number in the catalogue of the form that had it
---     held_rows, held-told, held-left     so it is judged as it is held, and answers and leaves the same
+--     held_rows, held-answer, held-left     so it is judged as it is held, and answers and leaves the same
 -- Assumes nothing.
 use mathlib.Core.Bool.{Bool, cond, not}
 use mathlib.Core.List.{List, [], ◌∷◌, ◌++◌}
@@ -18,11 +18,11 @@ use native.Mathlib.Nat.{mod-lt, mod-eq_of_lt, add-mod_right}
 use native.Mathlib.Omega.{arith}
 use borrow.Author.Tests.{lt-ltb, le-ltb}
 use lib.Dec.{ltb}
+use Rattle.std.proofs.Common.{Ok, Err}
 use Rattle.form.specs.Answers.{number_rows}
 use Rattle.form.proofs.Verdicts.{number-allowed}
 use Rattle.refusal.specs.declared.Refusal.TheVariants.{NoSuchNumber}
-use Rattle.refusal.specs.declared.Verdict.{Verdict}
-use Rattle.refusal.specs.Answer.{left}
+use Rattle.refusal.specs.Answer.{Verdict, answer, left}
 use Rattle.refusal.specs.Rows.{◌⇒◌, judge}
 use Rattle.triangle.specs.Count.{N}
 use Rattle.counts.specs.Counts.{count_rows}
@@ -32,7 +32,7 @@ use Rattle.number.proofs.Numbers.{form-schedule, top-form-schedule}
 use Rattle.number.proofs.Theorems.{number-form, form-number, number-below, top-form, form-top, top_below, form-before}
 use Rattle.record.specs.declared.layout.Numbering.{Numbering}
 use Rattle.record.specs.Record.{number_by, form_by}
-use Rattle.reader.specs.Answers.{told, catalogued}
+use Rattle.reader.specs.Answers.{catalogued}
 
 module _ {t s : ℕ} {b : List ℕ} (q : Schedule t s b) where
   pub number-form-in : (by : Numbering) → form_by by t s (number_by by t s b) ≡ b
@@ -100,7 +100,7 @@ module _ (by : Numbering) (t s n : ℕ) where
       ap (λ (b : Bool). judge (count_rows t s ++ (not b ⇒ NoSuchNumber) ∷ [])) (held_below by (N t s) n)
 
   -- where the number is taken, it is that of the form
-  module _ (e : judge (number_rows t s n) ≡ Verdict.Accepted) where
+  module _ (e : judge (number_rows t s n) ≡ Ok tt) where
     held-is : form_of t s listed ≡ form_by by t s n
     held-is = let few = number-allowed t s n e in held-form few.1 by n few.2
 
@@ -110,12 +110,12 @@ module _ (by : Numbering) (t s n : ℕ) where
         let below = number-allowed t s listed (held_rows ∙ e) in
         sym (form-number few.1 listed below.2) ∙ ap (number_of t s) held-is
 
-  pub held-told : (l : ℕ) (v : Verdict) → judge (number_rows t s n) ≡ v
-      → told t s listed l v ≡ told t s (number_of t s (form_by by t s n)) l v
-  held-told l Verdict.Accepted e = ap (λ (m : ℕ). told t s m l Verdict.Accepted) (held_number e)
-  held-told l (Verdict.Refused why) e = refl
+  pub held-answer : (v : Verdict) → judge (number_rows t s n) ≡ v
+      → answer v listed ≡ answer v (number_of t s (form_by by t s n))
+  held-answer (Ok unit) e = ap Ok (held_number e)
+  held-answer (Err why) e = refl
 
   pub held-left : (rest out : List ℕ) (v : Verdict) → judge (number_rows t s n) ≡ v
       → left v (form_of t s listed ++ rest) out ≡ left v (form_by by t s n ++ rest) out
-  held-left rest out Verdict.Accepted e = ap (λ (b : List ℕ). b ++ rest) (held-is e)
-  held-left rest out (Verdict.Refused why) e = refl
+  held-left rest out (Ok unit) e = ap (λ (b : List ℕ). b ++ rest) (held-is e)
+  held-left rest out (Err why) e = refl

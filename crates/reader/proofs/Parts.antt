@@ -17,7 +17,7 @@ use native.Mathlib.Omega.{arith}
 use borrow.Author.Tests.{ltb-false}
 use lib.ListN.{length, get_or, take, drop, get_or-eq_default}
 use lib.Seq.{get_or-drop}
-use Rattle.refusal.specs.declared.Verdict.{Verdict}
+use Rattle.std.proofs.Common.{Ok}
 use Rattle.refusal.specs.Rows.{judge}
 use Rattle.refusal.proofs.Rows.{judge-front, judge-back}
 use Rattle.refusal.proofs.Theorems.{accepted-none}
@@ -91,7 +91,7 @@ unused-packed b = elim (ℕ_discrete (length b % 8) 0) [ yes e ↦ none e | no m
         ∙ mul-mod_right (2 ^ (8 - length b % 8)) (spell (length b % 8) c)
 
 module _ (k : Layout) (room : ℕ) (src : List ℕ) where
-  pub head-facts-by : judge (head_rows_by k room src) ≡ Verdict.Accepted
+  pub head-facts-by : judge (head_rows_by k room src) ≡ Ok tt
       → (most_beats ≤ room) × (cut src ≡ false) × (2 ≤ long src) × (is_unknown k ≡ false)
   head-facts-by front =
       let none = accepted-none (head_rows_by k room src) front in (
@@ -101,19 +101,19 @@ module _ (k : Layout) (room : ℕ) (src : List ℕ) where
         none _ (Memᴰ.tail (Memᴰ.tail (Memᴰ.tail (Memᴰ.head refl)))),
       )
 
-  pub read-facts-by : judge (read_rows_by k room src) ≡ Verdict.Accepted
+  pub read-facts-by : judge (read_rows_by k room src) ≡ Ok tt
       → (most_beats ≤ room) × (cut src ≡ false) × (2 ≤ long src) × (is_unknown k ≡ false)
-      × (judge (kind_rows k src) ≡ Verdict.Accepted)
+      × (judge (kind_rows k src) ≡ Ok tt)
   read-facts-by e =
       let head = head-facts-by (judge-front (head_rows_by k room src) (kind_rows k src) e) in
       (head.0, head.1, head.2, head.3, judge-back (head_rows_by k room src) (kind_rows k src) e)
 
 module _ (room : ℕ) (src : List ℕ) where
-  pub head-facts : judge (head_rows room src) ≡ Verdict.Accepted
+  pub head-facts : judge (head_rows room src) ≡ Ok tt
       → (most_beats ≤ room) × (cut src ≡ false) × (2 ≤ long src) × (is_unknown (layout_in src) ≡ false)
   head-facts = head-facts-by (layout_in src) room src
 
-  pub read-facts : judge (read_rows room src) ≡ Verdict.Accepted
+  pub read-facts : judge (read_rows room src) ≡ Ok tt
       → (most_beats ≤ room) × (cut src ≡ false) × (2 ≤ long src) × (is_unknown (layout_in src) ≡ false)
-      × (judge (kind_rows (layout_in src) src) ≡ Verdict.Accepted)
+      × (judge (kind_rows (layout_in src) src) ≡ Ok tt)
   read-facts = read-facts-by (layout_in src) room src

@@ -11,8 +11,8 @@ use Prim.Native.Nat.{ℕ, ◌+◌, ◌≤◌}
 use native.Mathlib.Omega.{arith}
 use borrow.Author.Tests.{ltb-false}
 use lib.IntN.{ℤ}
+use Rattle.std.proofs.Common.{Ok}
 use Rattle.refusal.specs.declared.Refusal.TheVariants.{WrongSize}
-use Rattle.refusal.specs.declared.Verdict.{Verdict}
 use Rattle.refusal.specs.Answer.{refusal, surplus}
 use Rattle.refusal.specs.Rows.{◌⇒◌, judge}
 use Rattle.refusal.proofs.Rows.{All, all_join, judge-accepted}
@@ -67,7 +67,7 @@ read-sixes room src =
     all_join (Six (PackedOff k src)) (head_rows room src) (kind_rows k src) head (kind-sixes k src)
 
 module _ (room : ℕ) (src : List ℕ) (six : refusal (judge (read_rows room src)) ≡ 6) where
-  head_passed : judge (head_rows room src) ≡ Verdict.Accepted
+  head_passed : judge (head_rows room src) ≡ Ok tt
   head_passed = past-sixless (head_rows room src) (kind_rows (layout_in src) src) refl six
 
   -- in the rows of its kind only packed beats can be refused so, and L is not below the byte of the counts

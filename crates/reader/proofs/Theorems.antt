@@ -15,8 +15,9 @@ use native.Mathlib.Omega.{arith}
 use borrow.Author.Tests.{le-ltb, eq-eqb}
 use lib.ListN.{length, get_or, take, drop, length-append, get_or-eq_default}
 use lib.Seq.{take_at, get_or-drop, get_or-take}
+use Rattle.std.proofs.Common.{Ok}
 use Rattle.form.specs.Answers.{number_rows}
-use Rattle.refusal.specs.declared.Verdict.{Verdict}
+use Rattle.refusal.specs.Answer.{Verdict}
 use Rattle.refusal.specs.Rows.{judge}
 use Rattle.refusal.proofs.Rows.{judge-front, judge-accepted}
 use Rattle.refusal.proofs.Theorems.{accepted-none}
@@ -40,7 +41,6 @@ use Rattle.record.proofs.Layouts.{counts-at-four, known_small, written_known}
 use Rattle.record.proofs.Numerals.{Bytes, value_low, low_value, length-low}
 use Rattle.record.proofs.Packing.{all-beats}
 use Rattle.record.proofs.Writing.{record-size, write-kind, packed-size}
-use Rattle.record.specs.declared.reading.Reading.{Reading}
 use Rattle.reader.specs.Answers.{answer_by, left_by, read_answer, read_left}
 use Rattle.record.specs.Parts as said
 use Rattle.reader.proofs.Numberings.{number-form-in, number-below-in, form-number-in}
@@ -95,7 +95,7 @@ module _ (src : List ℕ) {t s : ℕ} {b : List ℕ} (a : Allowed t s) (q : Sche
       let form = meant k (ups_at (counts_at k) src) (downs_at (counts_at k) src) (body_at (counts_at k) src) in
       ap₂ (λ (i j : ℕ). number_of i j form) h.t-is h.s-is ∙ ap (number_of t s) (beats-held k h)
 
-  rows-held : (k : Layout) → Holds k → judge (kind_rows k src) ≡ Verdict.Accepted
+  rows-held : (k : Layout) → Holds k → judge (kind_rows k src) ≡ Ok tt
   rows-held (Layout.Numbered at by) h =
       numbered-fits at src by (h.size ∙ ap (λ (j : ℕ). at + j) (length-low 8 (number_by by t s b)))
       ∙ ap₂ (λ (i j : ℕ). judge (number_rows i j (value_of (body_at at src)))) h.t-is h.s-is
@@ -118,7 +118,7 @@ module _ (src : List ℕ) {t s : ℕ} {b : List ℕ} (a : Allowed t s) (q : Sche
 
 -- what reading a slice is to say: that it is a record of this form
 pub record Says (src : List ℕ) (t s n : ℕ) (b : List ℕ) (bytes : ℕ) : Type 0 where
-  pub accepted : (room : ℕ) → most_beats ≤ room → judge (read_rows room src) ≡ Verdict.Accepted
+  pub accepted : (room : ℕ) → most_beats ≤ room → judge (read_rows room src) ≡ Ok tt
   pub t-is : ups src ≡ t
   pub s-is : downs src ≡ s
   pub number_is : meant_number (layout_in src) (ups src) (downs src) (body src) ≡ n
@@ -189,7 +189,7 @@ module _ (t s : ℕ) (b rest : List ℕ) (a : Allowed t s) (q : Schedule t s b) 
 -- what reading such a slice answers and leaves
 says_all : (t s : ℕ) (b rest lent : List ℕ) → most_beats ≤ length lent → {src : List ℕ} {n bytes : ℕ}
     → Says src t s n b bytes
-    → (read_answer src lent ≡ Reading.Accepted (record { t = t; s = s; number = n; consumed = bytes }))
+    → (read_answer src lent ≡ Ok (record { t = t; s = s; number = n; consumed = bytes }))
     × (read_left src lent ≡ b ++ drop (t + s) lent)
 says_all t s b rest lent h {src} u =
     let v = u.accepted (length lent) h in (
@@ -200,9 +200,9 @@ says_all t s b rest lent h {src} u =
     )
 
 module _ (kind t s : ℕ) (b out rest lent : List ℕ) where
-  pub written_read : judge (write_rows kind t s b out) ≡ Verdict.Accepted → most_beats ≤ length lent
+  pub written_read : judge (write_rows kind t s b out) ≡ Ok tt → most_beats ≤ length lent
       → (read_answer (record_of kind t s b ++ rest) lent
-      ≡ Reading.Accepted (record { t = t; s = s; number = number_of t s b; consumed = length (record_of kind t s b) }))
+      ≡ Ok (record { t = t; s = s; number = number_of t s b; consumed = length (record_of kind t s b) }))
       × (read_left (record_of kind t s b ++ rest) lent ≡ b ++ drop (t + s) lent)
   written_read e h =
       let kept = accepted-none (write_rows kind t s b out) e _ (Memᴰ.head refl) in
@@ -213,7 +213,7 @@ module _ (kind t s : ℕ) (b out rest lent : List ℕ) where
       says_all t s b rest lent h (says t s b rest form.0 form.1 kind known)
 
 -- a slice of bytes that is accepted
-module _ (src : List ℕ) (bytes : Bytes src) (room : ℕ) (e : judge (read_rows room src) ≡ Verdict.Accepted) where
+module _ (src : List ℕ) (bytes : Bytes src) (room : ℕ) (e : judge (read_rows room src) ≡ Ok tt) where
   abbrev kind : ℕ
   kind = kind_in src
 
@@ -224,7 +224,7 @@ module _ (src : List ℕ) (bytes : Bytes src) (room : ℕ) (e : judge (read_rows
   b = meant (layout_in src) (ups src) (downs src) (body src)
 
   facts : (most_beats ≤ room) × (cut src ≡ false) × (2 ≤ long src) × (is_unknown (layout_in src) ≡ false)
-      × (judge (kind_rows (layout_in src) src) ≡ Verdict.Accepted)
+      × (judge (kind_rows (layout_in src) src) ≡ Ok tt)
   facts = read-facts room src e
 
   at-four : at ≡ 4
@@ -248,7 +248,7 @@ module _ (src : List ℕ) (bytes : Bytes src) (room : ℕ) (e : judge (read_rows
   payload-is : payload (layout_in src) (ups src) (downs src) b ≡ body src
   payload-is = by (layout_in src) facts.3 facts.4 size body_bytes
     where
-      by : (k : Layout) → is_unknown k ≡ false → judge (kind_rows k src) ≡ Verdict.Accepted
+      by : (k : Layout) → is_unknown k ≡ false → judge (kind_rows k src) ≡ Ok tt
           → length (body_at (counts_at k) src) ≡ long src - counts_at k → Bytes (body_at (counts_at k) src)
           → payload k (ups_at (counts_at k) src) (downs_at (counts_at k) src)
           (meant k (ups_at (counts_at k) src) (downs_at (counts_at k) src) (body_at (counts_at k) src))
@@ -306,8 +306,8 @@ module _ (src : List ℕ) (bytes : Bytes src) (room : ℕ) (e : judge (read_rows
       ∙ ap (λ (j : ℕ). take j src) all
 
 -- two slices of one kind that mean one form start with one record
-pub one-record : (src dst : List ℕ) → Bytes src → Bytes dst → (room : ℕ) → judge (read_rows room src) ≡ Verdict.Accepted
-    → judge (read_rows room dst) ≡ Verdict.Accepted
+pub one-record : (src dst : List ℕ) → Bytes src → Bytes dst → (room : ℕ) → judge (read_rows room src) ≡ Ok tt
+    → judge (read_rows room dst) ≡ Ok tt
     → kind_in src ≡ kind_in dst → ups src ≡ ups dst → downs src ≡ downs dst
     → meant (layout_in src) (ups src) (downs src) (body src) ≡ meant (layout_in dst) (ups dst) (downs dst) (body dst)
     → take (2 + long src) src ≡ take (2 + long dst) dst

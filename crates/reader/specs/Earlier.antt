@@ -9,7 +9,7 @@ use Rattle.triangle.specs.Count.{N}
 use Rattle.record.specs.declared.layout.Layout.{Layout}
 use Rattle.record.specs.declared.layout.Numbering.{Numbering}
 use Rattle.record.specs.declared.reading.Order.{Order}
-use Rattle.record.specs.declared.reading.Reading.{Reading}
+use Rattle.record.specs.Parts.{Reading}
 use Rattle.record.specs.Record.{kind_in}
 use Rattle.reader.specs.Answers.{read_answer_by, read_left_by}
 

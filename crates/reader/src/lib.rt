@@ -3,16 +3,17 @@
 // written is read back, and that what is read is written again byte for byte. [P1]
 #![tactic(auto)]
 
-ghost use Rattle.std.specs.Prelude.{◌≡◌, ◌≤◌, length};
-ghost use Rattle.lookup.specs.Lent.{Counts};
-ghost use Rattle.record.specs.Record.{ups};
-ghost use Rattle.reader.specs.Answers.{read_answer, read_left};
+ghost use Rattle.std.specs.Prelude.{false, ◌≡◌, ◌≤◌, length};
+ghost use Rattle.refusal.specs.Rows.{judge};
+ghost use Rattle.triangle.specs.Count.{most_beats};
+ghost use Rattle.record.specs.Record.{ups, cut};
+ghost use Rattle.reader.specs.Answers.{first_rows, read_answer, read_left, read_order};
 
+use lookup::Table;
 use record::layout::Layout;
-use record::{Reading, layout};
+use record::{Order, Unread, layout};
 use refusal::Refusal;
 use schedule::wide;
-use triangle::SIDE;
 
 mod reads;
 
@@ -23,12 +24,11 @@ pub use reads::LONGEST;
 // (kind 2's exact L and unused bits), 5, 6; a refusal changes nothing. Kind 1 holds a number that counts from t ones
 // then s zeros, and is refused 7 by that number; the number answered is the catalogue's for every kind. [W2] [D1a] [B2]
 // [K4]
-pub fn read(src: &[u8], out: &mut [u8]) -> Reading
+pub fn read(src: &[u8], out: &mut [u8]) -> Result<Order, Unread>
     ensures value { result ≡ read_answer src.now out.old }
     ensures out_after { out.new ≡ read_left src.now out.old }
 {
-    let none = lookup::NONE;
-    read_by(&none, src, out)
+    read_by(Table::none(), src, out)
 }
 
 // The ones that the record asks for that a slice starts with, which has its kind: t, as the layout of the kind says
@@ -43,26 +43,42 @@ pub fn asked(src: &[u8]) -> u64
     if at < src.len() { wide(src[at]) } else { 0 }
 }
 
+// Whether there is room for any schedule, and the slice has its whole record. Refuses 12, then 9.
+fn fits(src: &[u8], out: &[u8]) -> Result<(), Refusal>
+    ensures { result ≡ judge (first_rows (length out.now) src.now) }
+{
+    if out.len() < triangle::BEATS {
+        return Err(Refusal::NoRoom);
+    }
+    if reads::is_cut(src) {
+        return Err(Refusal::CutShort);
+    }
+    Ok(())
+}
+
+// Reads a whole record, by the layout of its kind. Refuses 11 (L below 2), 10, and then as the layout does.
+fn read_whole(table: Table<'_>, src: &[u8], out: &mut [u8]) -> Result<Order, Refusal>
+    requires { (cut src.now ≡ false) × (most_beats ≤ length out.old) }
+    ensures value { result ≡ read_order src.now out.old }
+    ensures out_after { out.new ≡ read_left src.now out.old }
+{
+    let long = reads::long(src);
+    if long < 2 {
+        return Err(Refusal::WrongSize);
+    }
+    match layout::of_kind(reads::kind(src)) {
+        Layout::Numbered(at, numbering) => reads::numbered(table, at, numbering, src, long, out),
+        Layout::Beaten(at) => reads::beaten(table, at, src, long, out),
+        Layout::Unknown => Err(Refusal::UnknownKind),
+    }
+}
+
 // The same as read, by rows of the table that the caller keeps from call to call. [P13]
-pub fn read_by(rows: &[[u64; SIDE]], src: &[u8], out: &mut [u8]) -> Reading
-    requires { Counts rows.now }
+pub fn read_by(table: Table<'_>, src: &[u8], out: &mut [u8]) -> Result<Order, Unread>
     ensures value { result ≡ read_answer src.now out.old }
     ensures out_after { out.new ≡ read_left src.now out.old }
 {
-    if out.len() < triangle::BEATS {
-        return Reading::Refused(Refusal::NoRoom, 0);
-    }
-    if reads::is_cut(src) {
-        return Reading::Refused(Refusal::CutShort, 0);
-    }
-    let long = reads::long(src);
-    if long < 2 {
-        return Reading::Refused(Refusal::WrongSize, 2 + long);
-    }
-    let layout = layout::of_kind(reads::kind(src));
-    match layout {
-        Layout::Numbered(at, numbering) => reads::numbered(rows, at, numbering, src, long, out),
-        Layout::Beaten(at) => reads::beaten(rows, at, src, long, out),
-        Layout::Unknown => Reading::Refused(Refusal::UnknownKind, 2 + long),
-    }
+    fits(src, out).map_err(|why| Unread { why, consumed: 0 })?;
+    let consumed = 2 + reads::long(src);
+    read_whole(table, src, out).map_err(|why| Unread { why, consumed })
 }

@@ -6,16 +6,15 @@ use mathlib.Core.Path.{◌≡◌, refl, ap}
 use Prim.Native.Nat.{ℕ, zero, suc, ◌<◌}
 use native.Mathlib.Omega.{arith}
 use lib.ListN.{length, get_or}
+use Rattle.std.proofs.Common.{Ok, Err}
 use Rattle.bounded.specs.Bounded.{every, first_from}
 use Rattle.refusal.specs.declared.Refusal.TheVariants.{WrongLength}
-use Rattle.refusal.specs.declared.Verdict.{Verdict}
 use Rattle.triangle.specs.Count.{N}
 use Rattle.schedule.specs.Meaning.{First}
 use Rattle.schedule.specs.Schedule.{ones, zeros, Schedule, is_schedule}
 use Rattle.schedule.proofs.Theorems.{true-is_schedule}
 use Rattle.circle.specs.Plan.{Form}
 use Rattle.circle.specs.Step.{shift, found, has01, moves_next, next}
-use Rattle.reason.specs.declared.Explained.{Explained}
 use Rattle.reason.specs.declared.Places.{Places}
 use Rattle.reason.specs.declared.Reason.{Reason}
 use Rattle.reason.specs.Explanation.{
@@ -146,22 +145,22 @@ found-said : values_of (Reason.FoundMoves 2 (Places.Two 1 2)) ≡ says 4 (2 ∷ 
 found-said = refl
 
 -- what a call answers: 10 is explained, and lent for (2,1) it is refused
-told-verdict : verdict (Explained.Told Reason.OneForm) ≡ Verdict.Accepted
+told-verdict : verdict (Ok Reason.OneForm) ≡ Ok tt
 told-verdict = refl
 
-refused-verdict : verdict (Explained.Refused WrongLength) ≡ Verdict.Refused WrongLength
+refused-verdict : verdict (Err WrongLength) ≡ Err WrongLength
 refused-verdict = refl
 
-told-values : values (Explained.Told Reason.OneForm) ≡ says 1 [] [] []
+told-values : values (Ok Reason.OneForm) ≡ says 1 [] [] []
 told-values = refl
 
-refused-values : values (Explained.Refused WrongLength) ≡ says 0 [] [] []
+refused-values : values (Err WrongLength) ≡ says 0 [] [] []
 refused-values = refl
 
-unless-accepted : unless-refused Verdict.Accepted (says 1 [] [] []) ≡ says 1 [] [] []
+unless-accepted : unless-refused (Ok tt) (says 1 [] [] []) ≡ says 1 [] [] []
 unless-accepted = refl
 
-unless-wrong : unless-refused (Verdict.Refused WrongLength) (says 1 [] [] []) ≡ says 0 [] [] []
+unless-wrong : unless-refused (Err WrongLength) (says 1 [] [] []) ≡ says 0 [] [] []
 unless-wrong = refl
 
 explained-10 : explained 1 1 b10 ≡ says 1 [] [] []

@@ -11,13 +11,17 @@ ghost use Rattle.reason.specs.Explanation.{no_place, places_of, values_of, expla
 ghost use Rattle.reason.specs.Answers.{explained};
 ghost use Rattle.reason.specs.Answers as answer;
 
-use refusal::{Refusal, Verdict};
+use circle::Found;
+use refusal::Refusal;
 
-// The answer where a place is asked for and there is none.
+// The answer where a place is asked for and there is none, and no `None`: the C functions `gv_explain_found`,
+// `gv_explain_moved` and `gv_explain_changed_place` answer it.
 pub const NO_PLACE: u64 = u64::MAX;
 
-// The places that a step changes, ascending.
-#[derive(Clone, Copy)]
+// The places that a step changes, ascending. Two cases with a number for each place and no arrays: in the definitions
+// an array is a list of any length, and the theorem `values_one`, that what is explained says which reason it is, would
+// not hold of two places that are four.
+#[derive(Clone, Copy, Debug, PartialEq, Eq)]
 pub enum Places {
     Two(u64, u64),
     Four(u64, u64, u64, u64),
@@ -46,7 +50,7 @@ impl Places {
 }
 
 // Why a beat moves to the second place, by the case of the rule. A place is counted from 0. [X2]
-#[derive(Clone, Copy)]
+#[derive(Clone, Copy, Debug, PartialEq, Eq)]
 pub enum Reason {
     // 1: there is only one form
     OneForm,
@@ -58,80 +62,75 @@ pub enum Reason {
     FoundMoves(u64, Places),
 }
 
-// The answer to the question why: the reason, or why there is none.
-#[derive(Clone, Copy)]
-pub enum Explained {
-    Told(Reason),
-    Refused(Refusal),
-}
+// The parts of the answer to the question why: the reason, or why there is none.
+pub trait Explained {
+    ghost said: { Self → answer.Explained };
 
-impl Explained {
-    pub fn verdict(self) -> Verdict
-        ensures { result ≡ answer.verdict self }
-    {
-        match self {
-            Explained::Told(_) => Verdict::Accepted,
-            Explained::Refused(why) => Verdict::Refused(why),
-        }
-    }
+    fn verdict(self) -> Result<(), Refusal>
+        ensures { result ≡ answer.verdict (said self) };
 
     // The number of the case, and 0 after a refusal.
-    pub fn case(self) -> u64
-        ensures { result ≡ (answer.values self).case }
-    {
-        match self {
-            Explained::Refused(_) => 0,
-            Explained::Told(reason) => match reason {
-                Reason::OneForm => 1,
-                Reason::LastMoves(_, _) => 2,
-                Reason::NextMoves(_, _, _) => 3,
-                Reason::FoundMoves(_, _) => 4,
-            },
-        }
-    }
+    fn case(self) -> u64
+        ensures { result ≡ (answer.values (said self)).case };
 
     // The place of the found 1, where there is one.
-    pub fn found(self) -> u64
-        ensures { result ≡ get_or (answer.values self).found 0 no_place }
-    {
-        match self {
-            Explained::Refused(_) => NO_PLACE,
-            Explained::Told(reason) => match reason {
-                Reason::OneForm => NO_PLACE,
-                Reason::LastMoves(_, _) => NO_PLACE,
-                Reason::NextMoves(at, _, _) => at,
-                Reason::FoundMoves(at, _) => at,
-            },
-        }
-    }
+    fn found(self) -> u64
+        ensures { result ≡ get_or (answer.values (said self)).found 0 no_place };
 
     // The place of the moved beat, where there is one.
-    pub fn moved(self) -> u64
-        ensures { result ≡ get_or (answer.values self).moved 0 no_place }
-    {
+    fn moved(self) -> u64
+        ensures { result ≡ get_or (answer.values (said self)).moved 0 no_place };
+
+    // A changed place by its index, from 0 on, where there are so many.
+    fn changed(self, index: u64) -> u64
+        ensures { result ≡ get_or (answer.values (said self)).changed index no_place };
+}
+
+impl Explained for Result<Reason, Refusal> {
+    ghost said = { λ told. told };
+
+    fn verdict(self) -> Result<(), Refusal> {
+        self?;
+        Ok(())
+    }
+
+    fn case(self) -> u64 {
         match self {
-            Explained::Refused(_) => NO_PLACE,
-            Explained::Told(reason) => match reason {
-                Reason::OneForm => NO_PLACE,
-                Reason::LastMoves(at, _) => at,
-                Reason::NextMoves(_, at, _) => at,
-                Reason::FoundMoves(at, _) => at,
-            },
+            Err(_) => 0,
+            Ok(Reason::OneForm) => 1,
+            Ok(Reason::LastMoves(_, _)) => 2,
+            Ok(Reason::NextMoves(_, _, _)) => 3,
+            Ok(Reason::FoundMoves(_, _)) => 4,
         }
     }
 
-    // A changed place by its index, from 0 on, where there are so many.
-    pub fn changed(self, index: u64) -> u64
-        ensures { result ≡ get_or (answer.values self).changed index no_place }
-    {
+    fn found(self) -> u64 {
         match self {
-            Explained::Refused(_) => NO_PLACE,
-            Explained::Told(reason) => match reason {
-                Reason::OneForm => NO_PLACE,
-                Reason::LastMoves(_, places) => places.at(index),
-                Reason::NextMoves(_, _, places) => places.at(index),
-                Reason::FoundMoves(_, places) => places.at(index),
-            },
+            Err(_) => NO_PLACE,
+            Ok(Reason::OneForm) => NO_PLACE,
+            Ok(Reason::LastMoves(_, _)) => NO_PLACE,
+            Ok(Reason::NextMoves(at, _, _)) => at,
+            Ok(Reason::FoundMoves(at, _)) => at,
+        }
+    }
+
+    fn moved(self) -> u64 {
+        match self {
+            Err(_) => NO_PLACE,
+            Ok(Reason::OneForm) => NO_PLACE,
+            Ok(Reason::LastMoves(at, _)) => at,
+            Ok(Reason::NextMoves(_, at, _)) => at,
+            Ok(Reason::FoundMoves(at, _)) => at,
+        }
+    }
+
+    fn changed(self, index: u64) -> u64 {
+        match self {
+            Err(_) => NO_PLACE,
+            Ok(Reason::OneForm) => NO_PLACE,
+            Ok(Reason::LastMoves(_, places)) => places.at(index),
+            Ok(Reason::NextMoves(_, _, places)) => places.at(index),
+            Ok(Reason::FoundMoves(_, places)) => places.at(index),
         }
     }
 }
@@ -143,8 +142,7 @@ pub fn reason_of(beats: &[u8]) -> Reason
     ensures { values_of result ≡ explanation_of beats.now }
 {
     let n = beats.len();
-    let y = schedule::skip(beats, 0, 1);
-    let x = schedule::skip(beats, y, 0);
+    let Found { y, x } = circle::find(beats);
     if x == n {
         if y == n {
             return Reason::OneForm;
@@ -168,13 +166,11 @@ pub fn reason_of(beats: &[u8]) -> Reason
 }
 
 // Explains what the step would do to the lent schedule. Refuses 1 to 6 as the check does. [X4] [D1a]
-pub fn explain(t: u64, s: u64, beats: &[u8]) -> Explained
+#[tactic(auto, using(circle::proofs::Forms::accepted_form))]
+pub fn explain(t: u64, s: u64, beats: &[u8]) -> Result<Reason, Refusal>
     ensures result_value { answer.verdict result ≡ checked t s beats.now }
     ensures result_value_2 { answer.values result ≡ explained t s beats.now }
 {
-    let verdict = schedule::check(t, s, beats);
-    match verdict {
-        Verdict::Refused(why) => Explained::Refused(why),
-        Verdict::Accepted => Explained::Told(reason_of(beats)),
-    }
+    schedule::check(t, s, beats)?;
+    Ok(reason_of(beats))
 }

@@ -3,20 +3,13 @@
 --     written-found                     the two places before them, and these
 --     one-form-line, last_line, next-line, found-line     the line of each reason
 --     written-counted                   the line of a record that is refused 6
---     far-small                         how far an integer of 32 bits is from 0
---     counted-up, counted-down          the ones found, by the surplus
 -- Assumes nothing.
-use mathlib.Core.Bool.{true, false, true≢false}
 use mathlib.Core.List.{List, [], ◌∷◌, ◌++◌, append_assoc}
-use mathlib.Core.Path.{◌≡◌, subst}
-use Prim.Native.Nat.{ℕ, ◌+◌, ◌-◌, ◌^◌, ◌≤◌, ◌<◌}
+use mathlib.Core.Path.{subst}
+use Prim.Native.Nat.{ℕ, ◌≤◌}
 use native.Mathlib.Omega.{arith}
-use borrow.Author.Tests.{ltb-true}
-use lib.IntN.{ℤ, pos, negsuc, nat_abs, ◌+ℤ◌}
 use lib.ListN.{length}
-use lib.Signed.{lt_z, mag}
 use Rattle.refusal.specs.declared.Refusal.{Refusal}
-use Rattle.schedule.proofs.Surplus.{sum-up, sum-down}
 use Rattle.reason.specs.declared.Places.{Places}
 use Rattle.reason.specs.declared.Reason.{Reason}
 use Rattle.reason.specs.Explanation.{places_of, values_of}
@@ -39,15 +32,14 @@ module _ {at : ℕ} {u : List ℕ} (inside : at ≤ length u) where
       subst (λ (p : List ℕ). Written at p u out r) (simp append_assoc)
       (written_then inside (written_then inside first second) third)
 
-  pub written-four : (a b c d : ℕ) {h i j k r : ℕ} {v w x y out : List ℕ}
-      → Written at (spaced a) u v h → Written h (spaced b) v w i → Written i (spaced c) w x j
-      → Written j (decimal d) x y k → Written k (10 ∷ []) y out r
+  pub written-four : (a b c d : ℕ) {h i r : ℕ} {v w out : List ℕ}
+      → Written at (spaced a) u v h → Written h (spaced b) v w i
+      → Written i (places_text (c ∷ d ∷ []) ++ 10 ∷ []) w out r
       → Written at (places_text (a ∷ b ∷ c ∷ d ∷ []) ++ 10 ∷ []) u out r
   unfolding places_text
-  written-four a b c d {r = r} {out = out} first second third fourth fifth =
+  written-four a b c d {r = r} {out = out} first second third =
       subst (λ (p : List ℕ). Written at p u out r) (simp append_assoc)
-      (written_then inside
-      (written_then inside (written_then inside (written_then inside first second) third) fourth) fifth)
+      (written_then inside (written_then inside first second) third)
 
   pub written-found : (found moved : ℕ) (l : List ℕ) {h i r : ℕ} {v w out : List ℕ}
       → Written at (spaced found) u v h → Written h (spaced moved) v w i → Written i (places_text l ++ 10 ∷ []) w out r
@@ -101,19 +93,3 @@ module _ {u out : List ℕ} {r : ℕ} where
       → Written j (decimal found) x y k → Written k (10 ∷ []) y out r
       → Written 0 (counted_line why asked found) u out r
   written-counted why = counted-after (refused_text why)
-
--- the ones found
-pub far-small : (z : ℤ) → mag z < 2 ^ 31 → nat_abs z ≤ 2 ^ 31
-far-small (pos n) h = omega arith
-far-small (negsuc n) h = omega arith
-
-pub counted-down : (asked n : ℕ) (z : ℤ) → z +ℤ pos asked ≡ pos n → lt_z z (pos 0) ≡ true
-    → (nat_abs z ≤ asked) × (asked - nat_abs z ≡ n)
-counted-down asked n (pos k) e below = absurd (omega (arith, ltb-true k 0 below))
-counted-down asked n (negsuc k) e below =
-    let sum = sum-down k asked n e in
-    (omega arith, omega arith)
-
-pub counted-up : (asked n : ℕ) (z : ℤ) → z +ℤ pos asked ≡ pos n → lt_z z (pos 0) ≡ false → asked + nat_abs z ≡ n
-counted-up asked n (pos k) e below = omega (arith, sum-up k asked n e)
-counted-up asked n (negsuc k) e below = absurd (true≢false below)

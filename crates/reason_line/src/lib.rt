@@ -13,23 +13,27 @@ use reason::{Places, Reason};
 use refusal::Refusal;
 use text::{decimal, field, magnitude, put};
 
+// Writes two places and the line feed, and answers the index after them.
+fn two_places(a: u64, b: u64, out: &mut [u8], at: usize) -> usize
+    requires { at + 42 ≤ length out.old }
+    ensures { Written at (places_text (a ∷ b ∷ []) ++ 10 ∷ []) out.old out.new result }
+{
+    let past_a = field(a, out, at);
+    let past_b = decimal(b, out, past_a);
+    put(b'\n', out, past_b)
+}
+
 // Writes the changed places and the line feed, and answers the index after them.
 fn changed_text(places: Places, out: &mut [u8], at: usize) -> usize
     requires { at + 84 ≤ length out.old }
     ensures { Written at (places_text (places_of places) ++ 10 ∷ []) out.old out.new result }
 {
     match places {
-        Places::Two(a, b) => {
-            let past_a = field(a, out, at);
-            let past_b = decimal(b, out, past_a);
-            put(b'\n', out, past_b)
-        }
+        Places::Two(a, b) => two_places(a, b, out, at),
         Places::Four(a, b, c, d) => {
             let past_a = field(a, out, at);
             let past_b = field(b, out, past_a);
-            let past_c = field(c, out, past_b);
-            let past_d = decimal(d, out, past_c);
-            put(b'\n', out, past_d)
+            two_places(c, d, out, past_b)
         }
     }
 }

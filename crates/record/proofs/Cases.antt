@@ -6,6 +6,7 @@ use mathlib.Core.Path.{◌≡◌, refl}
 use Prim.Native.Nat.{ℕ, ◌+◌}
 use lib.IntN.{pos}
 use lib.ListN.{replicate}
+use Rattle.std.proofs.Common.{Ok, Err}
 use Rattle.bounded.specs.Bounded.{every, first_from}
 use Rattle.refusal.specs.declared.Refusal.TheVariants.{
   WrongSize,
@@ -16,8 +17,6 @@ use Rattle.refusal.specs.declared.Refusal.TheVariants.{
   WrongTakeUps,
   NoSuchNumber,
 }
-use Rattle.refusal.specs.declared.Answer.{Answer}
-use Rattle.refusal.specs.declared.Verdict.{Verdict}
 use Rattle.refusal.specs.Rows.{judge}
 use Rattle.triangle.specs.Count.{N, most_beats}
 use Rattle.schedule.specs.Schedule.{ones, zeros, is_schedule}
@@ -60,7 +59,7 @@ use Rattle.record.specs.Record.{meant, meant_number, packed_rows, body_rows, kin
 use Rattle.record.specs.Record.{head_rows_by, read_rows_by, head_rows, read_rows}
 use Rattle.record.specs.Record.{record_in, room_row, known_rows, written, known_answer, known_left}
 use Rattle.record.specs.Record.{write_rows, write_answer, write_left}
-use Rattle.record.specs.declared.reading.Reading.{Reading}
+use Rattle.record.specs.Parts.{Reading, unread}
 use Rattle.record.specs.Parts as said
 
 -- 12 and 1,020 as two bytes, and back
@@ -380,58 +379,58 @@ unfolding tabulate N every first_from ones zeros is_schedule shift found has01 m
 meant-number-2 = refl
 
 -- the second record of the manual, and the same cut by a byte, with L = 0, of kind 4, and of kind 3
-taken : judge (read_rows most_beats (5 ∷ 0 ∷ 2 ∷ 0 ∷ 3 ∷ 2 ∷ 168 ∷ [])) ≡ Verdict.Accepted
+taken : judge (read_rows most_beats (5 ∷ 0 ∷ 2 ∷ 0 ∷ 3 ∷ 2 ∷ 168 ∷ [])) ≡ Ok tt
 unfolding value_of tabulate first_from ones zeros
 taken = refl
 
 -- [D1c]
-cut_short : judge (read_rows most_beats (5 ∷ 0 ∷ 2 ∷ 0 ∷ 3 ∷ 2 ∷ [])) ≡ Verdict.Refused CutShort
+cut_short : judge (read_rows most_beats (5 ∷ 0 ∷ 2 ∷ 0 ∷ 3 ∷ 2 ∷ [])) ≡ Err CutShort
 unfolding value_of
 cut_short = refl
 
-nothing : judge (read_rows most_beats []) ≡ Verdict.Refused CutShort
+nothing : judge (read_rows most_beats []) ≡ Err CutShort
 unfolding value_of
 nothing = refl
 
-tiny : judge (read_rows most_beats (0 ∷ 0 ∷ [])) ≡ Verdict.Refused WrongSize
+tiny : judge (read_rows most_beats (0 ∷ 0 ∷ [])) ≡ Err WrongSize
 unfolding value_of
 tiny = refl
 
 -- [R13]
-other-kind : judge (read_rows most_beats (5 ∷ 0 ∷ 4 ∷ 0 ∷ 3 ∷ 2 ∷ 168 ∷ [])) ≡ Verdict.Refused UnknownKind
+other-kind : judge (read_rows most_beats (5 ∷ 0 ∷ 4 ∷ 0 ∷ 3 ∷ 2 ∷ 168 ∷ [])) ≡ Err UnknownKind
 unfolding value_of
 other-kind = refl
 
-short-for-3 : judge (read_rows most_beats (5 ∷ 0 ∷ 3 ∷ 0 ∷ 3 ∷ 2 ∷ 168 ∷ [])) ≡ Verdict.Refused WrongSize
+short-for-3 : judge (read_rows most_beats (5 ∷ 0 ∷ 3 ∷ 0 ∷ 3 ∷ 2 ∷ 168 ∷ [])) ≡ Err WrongSize
 unfolding value_of
 short-for-3 = refl
 
 -- an unused bit set; a beat with nothing in hand, 10100; one 1 too many, 11101
-bit-set : judge (read_rows most_beats (5 ∷ 0 ∷ 2 ∷ 0 ∷ 3 ∷ 2 ∷ 169 ∷ [])) ≡ Verdict.Refused WrongSize
+bit-set : judge (read_rows most_beats (5 ∷ 0 ∷ 2 ∷ 0 ∷ 3 ∷ 2 ∷ 169 ∷ [])) ≡ Err WrongSize
 unfolding value_of tabulate first_from ones zeros
 bit-set = refl
 
-bare : judge (read_rows most_beats (5 ∷ 0 ∷ 2 ∷ 0 ∷ 3 ∷ 2 ∷ 160 ∷ [])) ≡ Verdict.Refused (EmptyHand 4)
+bare : judge (read_rows most_beats (5 ∷ 0 ∷ 2 ∷ 0 ∷ 3 ∷ 2 ∷ 160 ∷ [])) ≡ Err (EmptyHand 4)
 unfolding value_of tabulate first_from ones zeros
 bare = refl
 
-one_more : judge (read_rows most_beats (5 ∷ 0 ∷ 2 ∷ 0 ∷ 3 ∷ 2 ∷ 232 ∷ [])) ≡ Verdict.Refused (WrongTakeUps (pos 1))
+one_more : judge (read_rows most_beats (5 ∷ 0 ∷ 2 ∷ 0 ∷ 3 ∷ 2 ∷ 232 ∷ [])) ≡ Err (WrongTakeUps (pos 1))
 unfolding value_of tabulate first_from ones zeros
 one_more = refl
 
 -- its third record: number 5 of (3,2)
 no_number : judge (read_rows most_beats (12 ∷ 0 ∷ 1 ∷ 0 ∷ 3 ∷ 2 ∷ 5 ∷ 0 ∷ 0 ∷ 0 ∷ 0 ∷ 0 ∷ 0 ∷ 0 ∷ []))
-    ≡ Verdict.Refused NoSuchNumber
+    ≡ Err NoSuchNumber
 unfolding value_of N
 no_number = refl
 
 no-number-3 : judge (read_rows most_beats (12 ∷ 0 ∷ 3 ∷ 0 ∷ 3 ∷ 2 ∷ 5 ∷ 0 ∷ 0 ∷ 0 ∷ 0 ∷ 0 ∷ 0 ∷ 0 ∷ []))
-    ≡ Verdict.Refused NoSuchNumber
+    ≡ Err NoSuchNumber
 unfolding value_of N
 no-number-3 = refl
 
 -- 63 places are too few, whatever is there
-no_room : judge (read_rows 63 []) ≡ Verdict.Refused NoRoom
+no_room : judge (read_rows 63 []) ≡ Err NoRoom
 no_room = refl
 
 -- what is consumed: nothing after 9 and after 12, else the record [R21]
@@ -467,31 +466,31 @@ unfolding low_first tabulate spell
 in-beaten = refl
 
 -- two bytes to write, into two and into one
-room-enough : judge (room_row (1 ∷ 2 ∷ []) (7 ∷ 7 ∷ []) ∷ []) ≡ Verdict.Accepted
+room-enough : judge (room_row (1 ∷ 2 ∷ []) (7 ∷ 7 ∷ []) ∷ []) ≡ Ok tt
 room-enough = refl
 
-room-short : judge (room_row (1 ∷ 2 ∷ []) (7 ∷ []) ∷ []) ≡ Verdict.Refused NoRoom
+room-short : judge (room_row (1 ∷ 2 ∷ []) (7 ∷ []) ∷ []) ≡ Err NoRoom
 room-short = refl
 
-known-taken : judge (known_rows 1 1 (1 ∷ 0 ∷ []) (1 ∷ 2 ∷ []) (7 ∷ 7 ∷ [])) ≡ Verdict.Accepted
+known-taken : judge (known_rows 1 1 (1 ∷ 0 ∷ []) (1 ∷ 2 ∷ []) (7 ∷ 7 ∷ [])) ≡ Ok tt
 unfolding ones zeros first_from
 known-taken = refl
 
-known-short : judge (known_rows 1 1 (1 ∷ 0 ∷ []) (1 ∷ 2 ∷ []) (7 ∷ [])) ≡ Verdict.Refused NoRoom
+known-short : judge (known_rows 1 1 (1 ∷ 0 ∷ []) (1 ∷ 2 ∷ []) (7 ∷ [])) ≡ Err NoRoom
 unfolding ones zeros first_from
 known-short = refl
 
-written-taken : written Verdict.Accepted (1 ∷ 2 ∷ []) (7 ∷ 7 ∷ 7 ∷ []) ≡ 1 ∷ 2 ∷ 7 ∷ []
+written-taken : written (Ok tt) (1 ∷ 2 ∷ []) (7 ∷ 7 ∷ 7 ∷ []) ≡ 1 ∷ 2 ∷ 7 ∷ []
 written-taken = refl
 
-written-refused : written (Verdict.Refused NoRoom) (1 ∷ 2 ∷ []) (7 ∷ []) ≡ 7 ∷ []
+written-refused : written (Err NoRoom) (1 ∷ 2 ∷ []) (7 ∷ []) ≡ 7 ∷ []
 written-refused = refl
 
-known-answers-2 : known_answer 1 1 (1 ∷ 0 ∷ []) (1 ∷ 2 ∷ []) (7 ∷ 7 ∷ []) ≡ Answer.Value 2
+known-answers-2 : known_answer 1 1 (1 ∷ 0 ∷ []) (1 ∷ 2 ∷ []) (7 ∷ 7 ∷ []) ≡ Ok 2
 unfolding ones zeros first_from
 known-answers-2 = refl
 
-known-answers-12 : known_answer 1 1 (1 ∷ 0 ∷ []) (1 ∷ 2 ∷ []) (7 ∷ []) ≡ Answer.Refused NoRoom
+known-answers-12 : known_answer 1 1 (1 ∷ 0 ∷ []) (1 ∷ 2 ∷ []) (7 ∷ []) ≡ Err NoRoom
 unfolding ones zeros first_from
 known-answers-12 = refl
 
@@ -504,26 +503,26 @@ unfolding ones zeros first_from
 known-leaves-lent = refl
 
 -- 10 as a record of kind 2, which has 7 bytes, and of kind 3, which has 14; of kind 1 and of no kind it is refused 10
-write-taken : judge (write_rows 2 1 1 (1 ∷ 0 ∷ []) (replicate 8 7)) ≡ Verdict.Accepted
+write-taken : judge (write_rows 2 1 1 (1 ∷ 0 ∷ []) (replicate 8 7)) ≡ Ok tt
 unfolding low_first tabulate spell ones zeros first_from
 write-taken = refl
 
-write-taken-3 : judge (write_rows 3 1 1 (1 ∷ 0 ∷ []) (replicate 14 7)) ≡ Verdict.Accepted
+write-taken-3 : judge (write_rows 3 1 1 (1 ∷ 0 ∷ []) (replicate 14 7)) ≡ Ok tt
 unfolding low_first N every first_from ones zeros is_schedule shift found has01 moves_next next steps changed
 write-taken-3 = refl
 
 -- [K3]
-write-1 : judge (write_rows 1 1 1 (1 ∷ 0 ∷ []) (replicate 14 7)) ≡ Verdict.Refused UnknownKind
+write-1 : judge (write_rows 1 1 1 (1 ∷ 0 ∷ []) (replicate 14 7)) ≡ Err UnknownKind
 write-1 = refl
 
-write-other : judge (write_rows 4 1 1 (1 ∷ 0 ∷ []) (replicate 8 7)) ≡ Verdict.Refused UnknownKind
+write-other : judge (write_rows 4 1 1 (1 ∷ 0 ∷ []) (replicate 8 7)) ≡ Err UnknownKind
 write-other = refl
 
-write-answers-7 : write_answer 2 1 1 (1 ∷ 0 ∷ []) (replicate 8 7) ≡ Answer.Value 7
+write-answers-7 : write_answer 2 1 1 (1 ∷ 0 ∷ []) (replicate 8 7) ≡ Ok 7
 unfolding low_first tabulate spell ones zeros first_from
 write-answers-7 = refl
 
-write-answers-12 : write_answer 2 1 1 (1 ∷ 0 ∷ []) (replicate 6 7) ≡ Answer.Refused NoRoom
+write-answers-12 : write_answer 2 1 1 (1 ∷ 0 ∷ []) (replicate 6 7) ≡ Err NoRoom
 unfolding low_first tabulate spell ones zeros first_from
 write-answers-12 = refl
 
@@ -535,75 +534,75 @@ write-leaves-lent : write_left 1 1 1 (1 ∷ 0 ∷ []) (7 ∷ []) ≡ 7 ∷ []
 write-leaves-lent = refl
 
 -- the ends of the order of reading: 10101 packed, and with an unused bit; number 4 of (3,2), and 5, by both numberings
-packed-taken : judge (packed_rows 3 2 (168 ∷ [])) ≡ Verdict.Accepted
+packed-taken : judge (packed_rows 3 2 (168 ∷ [])) ≡ Ok tt
 unfolding tabulate ones zeros first_from
 packed-taken = refl
 
-packed-spoiled : judge (packed_rows 3 2 (169 ∷ [])) ≡ Verdict.Refused WrongSize
+packed-spoiled : judge (packed_rows 3 2 (169 ∷ [])) ≡ Err WrongSize
 packed-spoiled = refl
 
-body-taken : judge (body_rows (layout_of 1) 3 2 (4 ∷ [])) ≡ Verdict.Accepted
+body-taken : judge (body_rows (layout_of 1) 3 2 (4 ∷ [])) ≡ Ok tt
 unfolding value_of N
 body-taken = refl
 
-body-beyond : judge (body_rows (layout_of 1) 3 2 (5 ∷ [])) ≡ Verdict.Refused NoSuchNumber
+body-beyond : judge (body_rows (layout_of 1) 3 2 (5 ∷ [])) ≡ Err NoSuchNumber
 unfolding value_of N
 body-beyond = refl
 
-body-taken-3 : judge (body_rows (layout_of 3) 3 2 (4 ∷ [])) ≡ Verdict.Accepted
+body-taken-3 : judge (body_rows (layout_of 3) 3 2 (4 ∷ [])) ≡ Ok tt
 unfolding value_of N
 body-taken-3 = refl
 
-body-beyond-3 : judge (body_rows (layout_of 3) 3 2 (5 ∷ [])) ≡ Verdict.Refused NoSuchNumber
+body-beyond-3 : judge (body_rows (layout_of 3) 3 2 (5 ∷ [])) ≡ Err NoSuchNumber
 unfolding value_of N
 body-beyond-3 = refl
 
 -- by a layout, whatever the kind says: kind 2, taken for one of no layout
-head-by-taken : judge (head_rows_by (layout_of 2) most_beats (5 ∷ 0 ∷ 2 ∷ 0 ∷ 3 ∷ 2 ∷ 168 ∷ [])) ≡ Verdict.Accepted
+head-by-taken : judge (head_rows_by (layout_of 2) most_beats (5 ∷ 0 ∷ 2 ∷ 0 ∷ 3 ∷ 2 ∷ 168 ∷ [])) ≡ Ok tt
 unfolding value_of
 head-by-taken = refl
 
 head-by-unknown : judge (head_rows_by Layout.Unknown most_beats (5 ∷ 0 ∷ 2 ∷ 0 ∷ 3 ∷ 2 ∷ 168 ∷ []))
-    ≡ Verdict.Refused UnknownKind
+    ≡ Err UnknownKind
 unfolding value_of
 head-by-unknown = refl
 
-by-taken : judge (read_rows_by (layout_of 2) most_beats (5 ∷ 0 ∷ 2 ∷ 0 ∷ 3 ∷ 2 ∷ 168 ∷ [])) ≡ Verdict.Accepted
+by-taken : judge (read_rows_by (layout_of 2) most_beats (5 ∷ 0 ∷ 2 ∷ 0 ∷ 3 ∷ 2 ∷ 168 ∷ [])) ≡ Ok tt
 unfolding value_of tabulate first_from ones zeros
 by-taken = refl
 
 by-unknown : judge (read_rows_by Layout.Unknown most_beats (5 ∷ 0 ∷ 2 ∷ 0 ∷ 3 ∷ 2 ∷ 168 ∷ []))
-    ≡ Verdict.Refused UnknownKind
+    ≡ Err UnknownKind
 unfolding value_of
 by-unknown = refl
 
-head-taken : judge (head_rows most_beats (5 ∷ 0 ∷ 2 ∷ 0 ∷ 3 ∷ 2 ∷ 168 ∷ [])) ≡ Verdict.Accepted
+head-taken : judge (head_rows most_beats (5 ∷ 0 ∷ 2 ∷ 0 ∷ 3 ∷ 2 ∷ 168 ∷ [])) ≡ Ok tt
 unfolding value_of
 head-taken = refl
 
-head-cut : judge (head_rows most_beats (5 ∷ 0 ∷ 2 ∷ [])) ≡ Verdict.Refused CutShort
+head-cut : judge (head_rows most_beats (5 ∷ 0 ∷ 2 ∷ [])) ≡ Err CutShort
 unfolding value_of
 head-cut = refl
 
-kind-taken : judge (kind_rows (layout_of 2) (5 ∷ 0 ∷ 2 ∷ 0 ∷ 3 ∷ 2 ∷ 168 ∷ [])) ≡ Verdict.Accepted
+kind-taken : judge (kind_rows (layout_of 2) (5 ∷ 0 ∷ 2 ∷ 0 ∷ 3 ∷ 2 ∷ 168 ∷ [])) ≡ Ok tt
 unfolding value_of tabulate ones zeros first_from
 kind-taken = refl
 
-kind-misfit : judge (kind_rows (layout_of 2) (3 ∷ 0 ∷ 2 ∷ 0 ∷ 3 ∷ [])) ≡ Verdict.Refused WrongSize
+kind-misfit : judge (kind_rows (layout_of 2) (3 ∷ 0 ∷ 2 ∷ 0 ∷ 3 ∷ [])) ≡ Err WrongSize
 unfolding value_of
 kind-misfit = refl
 
 -- the parts of an answer: of the manual's first record, and of one that is refused 7
 abbrev accepts : Reading
-accepts = Reading.Accepted (record { t = 3; s = 2; number = 1; consumed = 14 })
+accepts = Ok (record { t = 3; s = 2; number = 1; consumed = 14 })
 
 abbrev refuses : Reading
-refuses = Reading.Refused NoSuchNumber 13
+refuses = unread NoSuchNumber 13
 
-verdict-accepts : said.verdict accepts ≡ Verdict.Accepted
+verdict-accepts : said.verdict accepts ≡ Ok tt
 verdict-accepts = refl
 
-verdict-refuses : said.verdict refuses ≡ Verdict.Refused NoSuchNumber
+verdict-refuses : said.verdict refuses ≡ Err NoSuchNumber
 verdict-refuses = refl
 
 t-accepts : said.t accepts ≡ 3

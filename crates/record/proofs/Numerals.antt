@@ -2,7 +2,7 @@
 --     value-below          bytes below 256 are of a number below 256^k
 --     value_low, low_value the two ways undo each other
 --     Valued, valued-start, valued-more, valued-all       the loop that reads a number, from its last byte on
---     Spelled, spelled-start, spelled-more, spelled-all   the loop that writes one, from its first byte on
+--     Spelled, spelled-more, spelled-all                  the loop that writes one, from its first byte on
 -- Assumes nothing.
 use mathlib.Core.List.{List, [], ◌∷◌, ◌++◌, append_assoc, append-nil}
 use mathlib.Core.Path.{◌≡◌, refl, sym, ◌∙◌, ap}
@@ -10,8 +10,9 @@ use Prim.Native.Nat.{ℕ, zero, suc, ◌+◌, ◌-◌, ◌*◌, ◌/◌, ◌%◌
 use native.Mathlib.Numerals.{add-one}
 use native.Mathlib.Nat.{pow-suc, pow-le-pow_right}
 use native.Mathlib.Omega.{arith}
-use lib.ListN.{length, get_or, set, take, drop, length-set, length-drop}
-use lib.Seq.{drop-cons, drop-length, get_or-drop, take_all, take-suc-set}
+use Rattle.std.proofs.lemmas.List.{nil_from_length}
+use lib.ListN.{length, get_or, set, take, length-set, length-append}
+use lib.Seq.{get_or-drop, drop_at, take_all, take-suc-set}
 use Rattle.record.specs.Bytes.{low_first, value_of}
 
 -- each entry of a list of bytes
@@ -41,45 +42,48 @@ unfolding low_first
 length-low zero v = refl
 length-low (suc k) v = ap suc (length-low k (v / 256))
 
--- the bytes from at on have been read
-pub record Valued (src : List ℕ) (at number : ℕ) : Type 0 where
-  pub within : at ≤ length src
-  pub so_far : number ≡ value_of (drop at src)
+-- the bytes behind those that are left have been read
+pub record Valued (src left : List ℕ) (number : ℕ) : Type 0 where
+  pub done : List ℕ
+  pub parts : left ++ done ≡ src
+  pub so_far : number ≡ value_of done
 
-pub valued-start : (src : List ℕ) → Valued src (length src) 0
+pub valued-start : (src left : List ℕ) → left ≡ src → Valued src left 0
 unfolding value_of
-valued-start src = record { within = omega arith; so_far = ap value_of (sym (drop-length src)) }
+valued-start src left e = record { done = []; parts = append-nil left ∙ e; so_far = refl }
 
-pub valued-more : {src : List ℕ} {at number : ℕ} → Valued src at number → 0 < at → (x : ℕ) → x ≡ get_or src (at - 1) 0
-    → Valued src (at - 1) (number * 256 + x)
-unfolding value_of
-valued-more {src} {at} {number} u h x e =
-    let next : suc (at - 1) ≡ at = omega arith in
-    let here =
-    ap value_of
-    (drop-cons src (at - 1) 0 (omega (arith, u.within)) ∙ ap (λ (j : ℕ). get_or src (at - 1) 0 ∷ drop j src) next) in
-    record { within = omega (arith, u.within); so_far = omega (arith, here, u.so_far) }
+-- x is the next byte, the last of those that were left
+module _ {src left : List ℕ} {number : ℕ} (u : Valued src left number) (rest : List ℕ) (x : ℕ)
+    (e : left ≡ rest ++ x ∷ [])
+  where
+    pub valued-more : Valued src rest (number * 256 + x)
+    unfolding value_of
+    valued-more = record {
+      done = x ∷ u.done;
+      parts = sym (append_assoc rest (x ∷ []) u.done) ∙ ap (λ (w : List ℕ). w ++ u.done) (sym e) ∙ u.parts;
+      so_far = omega (arith, u.so_far);
+    }
 
-pub valued-small : {src : List ℕ} {at number : ℕ} → Valued src at number → Bytes src → length src ≤ 8 → 0 < at
-    → number < 256 ^ 7
-valued-small {src} {at} {number} u f h p =
-    let below = value-below (drop at src) (λ i. omega (arith, get_or-drop at src i 0, f (at + i))) in
-    let few : length (drop at src) ≤ 7 = omega (arith, length-drop at src, u.within) in
-    omega (arith, u.so_far, below, pow-le-pow_right {n = 256} (omega arith) few)
+    pub valued-small : Bytes src → length src ≤ 8 → number < 256 ^ 7
+    valued-small f h =
+        let here = λ (i : ℕ).
+        ap (λ (w : List ℕ). get_or w i 0) (sym (drop_at left u.done (length left) refl))
+        ∙ get_or-drop (length left) (left ++ u.done) i 0
+        ∙ ap (λ (w : List ℕ). get_or w (length left + i) 0) u.parts in
+        let below = value-below u.done (λ i. omega (arith, here i, f (length left + i))) in
+        let few : length u.done ≤ 7 =
+        omega (arith, ap length u.parts, ap length e, length-append left u.done, length-append rest (x ∷ [])) in
+        omega (arith, u.so_far, below, pow-le-pow_right {n = 256} (omega arith) few)
 
-pub valued-all : {src : List ℕ} {at number : ℕ} → Valued src at number → at ≤ 0 → number ≡ value_of src
-valued-all {src} {at} {number} u h = let z : at ≡ 0 = omega arith in u.so_far ∙ ap (λ (j : ℕ). value_of (drop j src)) z
+pub valued-all : {src left : List ℕ} {number : ℕ} → Valued src left number → length left ≡ 0 → number ≡ value_of src
+valued-all {src} {left} {number} u h =
+    u.so_far ∙ ap value_of (ap (λ (w : List ℕ). w ++ u.done) (sym (nil_from_length left h)) ∙ u.parts)
 
 -- the first at bytes have been written, and those of the rest are still to come
 pub record Spelled (number n at rest : ℕ) (out : List ℕ) : Type 0 where
   pub within : at ≤ n
   pub long : length out ≡ n
   pub so_far : take at out ++ low_first (n - at) rest ≡ low_first n number
-
-pub spelled-start : (number : ℕ) (out : List ℕ) → Spelled number (length out) 0 number out
-spelled-start number out =
-    let all : length out - 0 ≡ length out = omega arith in
-    record { within = omega arith; long = refl; so_far = ap (λ (j : ℕ). low_first j number) all }
 
 pub spelled-more : {number n at rest : ℕ} {out : List ℕ} → Spelled number n at rest out → at < length out
     → Spelled number n (at + 1) (rest / 256) (set out at (rest % 256))

@@ -1,7 +1,7 @@
 -- Beats eight to a byte.
 --     length-tabulate, get_or-tabulate     a table's length and entries
 --     spell-below          k beats spell a number below 2^k
---     Octet, octet-start, octet-more, octet-all          the loop that spells a byte
+--     Octet, octet-start, octet-more                    the loop that spells a byte
 --     Filled, filled-start, filled_more, filled-all      a loop that fills a list by a rule, as the one that packs does
 --     turned-new, turned-old     the byte in hand
 --     Unpacked, unpacked-start, unpacked-more, unpacked-all     the loop that unpacks
@@ -99,11 +99,6 @@ module _ {b : List ℕ} {from at byte : ℕ} (f : (i : ℕ) → get_or b i 0 ≤
     within = omega arith;
     so_far = omega (arith, u.so_far, spell-more (drop from b) at, get_or-drop from b at 0);
   }
-
-pub octet-all : {b : List ℕ} {from at byte : ℕ} → Octet b from at byte → 8 ≤ at → byte ≡ spell 8 (drop from b)
-octet-all {b} {from} {at} {byte} u h =
-    let all : at ≡ 8 = omega (arith, u.within) in
-    u.so_far ∙ ap (λ (j : ℕ). spell j (drop from b)) all
 
 -- a byte moved up by r bits: its highest bit, what is left of it, and whether anything is
 pub shift-bit : (v r : ℕ) → v < 256 → r < 8 → v * 2 ^ r % 256 / 128 ≡ v / 2 ^ (7 - r) % 2

@@ -13,9 +13,9 @@ use native.Mathlib.Omega.{arith}
 use borrow.Author.Tests.{lt-ltb, le-ltb}
 use lib.ListN.{length, set, take, drop}
 use lib.Seq.{drop-drop}
+use Rattle.std.proofs.Common.{Ok, Err}
 use Rattle.refusal.specs.declared.Refusal.{Refusal}
 use Rattle.refusal.specs.declared.Refusal.TheVariants.{UnknownKind, NoRoom}
-use Rattle.refusal.specs.declared.Verdict.{Verdict}
 use Rattle.refusal.specs.Rows.{Row, ◌⇒◌, judge}
 use Rattle.refusal.proofs.Rows.{judge-refused, judge-accepted}
 use Rattle.schedule.specs.Check.{check_rows, checked}
@@ -75,17 +75,17 @@ module _ (t s : ℕ) (b bytes out : List ℕ) where
   abbrev last : List Row
   last = room_row bytes out ∷ []
 
-  pub write-refused : {why : Refusal} → checked t s b ≡ Verdict.Refused why
-      → judge (known_rows t s b bytes out) ≡ Verdict.Refused why
+  pub write-refused : {why : Refusal} → checked t s b ≡ Err why
+      → judge (known_rows t s b bytes out) ≡ Err why
   write-refused {why} e = judge-refused (check_rows t s b) last why e
 
-  module _ (e : checked t s b ≡ Verdict.Accepted) where
-    pub write-short : length out < length bytes → judge (known_rows t s b bytes out) ≡ Verdict.Refused NoRoom
+  module _ (e : checked t s b ≡ Ok tt) where
+    pub write-short : length out < length bytes → judge (known_rows t s b bytes out) ≡ Err NoRoom
     write-short h =
         judge-accepted (check_rows t s b) last e
         ∙ ap (λ (x : Bool). judge ((x ⇒ NoRoom) ∷ [])) (lt-ltb (length out) (length bytes) h)
 
-    pub write-taken : length bytes ≤ length out → judge (known_rows t s b bytes out) ≡ Verdict.Accepted
+    pub write-taken : length bytes ≤ length out → judge (known_rows t s b bytes out) ≡ Ok tt
     write-taken h =
         judge-accepted (check_rows t s b) last e
         ∙ ap (λ (x : Bool). judge ((x ⇒ NoRoom) ∷ [])) (le-ltb (length out) (length bytes) h)
@@ -96,7 +96,7 @@ module _ (kind t s : ℕ) (b out : List ℕ) where
   known = known_rows t s b (record_of kind t s b) out
 
   pub write-unknown : is_unwritten (layout_of kind) ≡ true
-      → judge (write_rows kind t s b out) ≡ Verdict.Refused UnknownKind
+      → judge (write_rows kind t s b out) ≡ Err UnknownKind
   write-unknown e = ap (λ (x : Bool). judge ((x ⇒ UnknownKind) ∷ known)) e
 
   pub write-kind : is_unwritten (layout_of kind) ≡ false → judge (write_rows kind t s b out) ≡ judge known

@@ -1,25 +1,35 @@
 -- The parts of what reading answers, the manual, "Order record". Definitions only.
+--     Reading          an answer: what the record says; or why it is refused, and the bytes to pass over
+--     unread why n     the answer that refuses so and passes over n bytes
 --     verdict, t, s, number, consumed     after a refusal every number but the bytes consumed is 0 [R22] [F5]
-use Rattle.std.specs.Prelude.{ℕ}
-use Rattle.refusal.specs.declared.Verdict.{Verdict}
-use Rattle.record.specs.declared.reading.Reading.{Reading}
+use Rattle.std.specs.Prelude.{ℕ, Result, Ok, Err}
+use Rattle.refusal.specs.declared.Refusal.{Refusal}
+use Rattle.refusal.specs.Answer.{Verdict}
+use Rattle.record.specs.declared.reading.Order.{Order}
+use Rattle.record.specs.declared.reading.Unread.{Unread}
+
+abbrev pub Reading : Type 0
+Reading = Result Order Unread
+
+abbrev pub unread : Refusal → ℕ → Reading
+unread why n = Err (record { why = why; consumed = n })
 
 abbrev pub verdict : Reading → Verdict
-verdict (Reading.Accepted o) = Verdict.Accepted
-verdict (Reading.Refused why n) = Verdict.Refused why
+verdict (Ok o) = Ok tt
+verdict (Err u) = Err u.why
 
 abbrev pub t : Reading → ℕ
-t (Reading.Accepted o) = o.t
-t (Reading.Refused why n) = 0
+t (Ok o) = o.t
+t (Err u) = 0
 
 abbrev pub s : Reading → ℕ
-s (Reading.Accepted o) = o.s
-s (Reading.Refused why n) = 0
+s (Ok o) = o.s
+s (Err u) = 0
 
 abbrev pub number : Reading → ℕ
-number (Reading.Accepted o) = o.number
-number (Reading.Refused why n) = 0
+number (Ok o) = o.number
+number (Err u) = 0
 
 abbrev pub consumed : Reading → ℕ
-consumed (Reading.Accepted o) = o.consumed
-consumed (Reading.Refused why n) = n
+consumed (Ok o) = o.consumed
+consumed (Err u) = u.consumed

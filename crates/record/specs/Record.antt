@@ -31,11 +31,9 @@
 --     What reading answers and leaves is in specs/Answers of the crate `reader`.
 use Rattle.std.specs.Prelude.{Bool, false, not, cond, ◌||◌, List, [], ◌∷◌, ◌++◌, ℕ, ◌+◌, ◌-◌, eqb, ltb, length, get_or}
 use Rattle.std.specs.Prelude.{take, drop}
-use Rattle.refusal.specs.declared.Answer.{Answer}
 use Rattle.refusal.specs.declared.Refusal.{Refusal}
 use Rattle.refusal.specs.declared.Refusal.TheVariants.{NoSuchNumber, CutShort, UnknownKind, WrongSize, NoRoom}
-use Rattle.refusal.specs.declared.Verdict.{Verdict}
-use Rattle.refusal.specs.Answer.{answer, left}
+use Rattle.refusal.specs.Answer.{Verdict, Answer, answer, left}
 use Rattle.refusal.specs.Refusal.{refusal_number}
 use Rattle.refusal.specs.Rows.{Row, ◌⇒◌, judge}
 use Rattle.triangle.specs.Count.{N, most_beats}

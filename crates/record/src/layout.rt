@@ -37,7 +37,8 @@ impl Layout {
 // The bytes of a number.
 pub const NUMBER: usize = 8;
 
-// The layout of a kind. Kind 3 is laid out like kind 1, and holds the number by another numbering. [K3]
+// The layout of a kind, which is a number, since a record or a host may have any. Kind 3 is laid out like kind 1, and
+// holds the number by another numbering. [K3]
 pub fn of_kind(kind: u64) -> Layout
     ensures { result ≡ layout_of kind }
 {

@@ -3,18 +3,14 @@
 ghost use Rattle.std.specs.Prelude.{◌≡◌, ◌≤◌, length};
 ghost use Rattle.record.specs.Bytes.{value_of, low_first};
 
-use schedule::wide;
-
 // The number whose bytes these are.
 pub fn value(src: &[u8]) -> u64
     requires { length src.now ≤ 8 }
     ensures { result ≡ value_of src.now }
 {
     let mut number: u64 = 0;
-    let mut at = src.len();
-    while 0 < at {
-        at -= 1;
-        number = number * 256 + wide(src[at]);
+    for byte in src.iter().rev() {
+        number = number * 256 + u64::from(*byte);
     }
     number
 }
@@ -24,10 +20,8 @@ pub fn spell(number: u64, out: &mut [u8])
     ensures { out.new ≡ low_first (length out.old) number }
 {
     let mut rest = number;
-    let mut at = 0;
-    while at < out.len() {
-        out[at] = (rest % 256) as u8;
+    for byte in out.iter_mut() {
+        *byte = (rest % 256) as u8;
         rest /= 256;
-        at += 1;
     }
 }

@@ -8,14 +8,14 @@ pub fn bytes_for(n: usize) -> usize
     requires { n ≤ 1000 }
     ensures { result ≡ bytes_for n }
 {
-    (n + 7) / 8
+    n.div_ceil(8)
 }
 
 // The beat at an index, and 0 where there is none.
 fn beat(beats: &[u8], at: usize) -> u8
     ensures { result ≡ get_or beats.now at 0 }
 {
-    if at < beats.len() { beats[at] } else { 0 }
+    beats.get(at).copied().unwrap_or(0)
 }
 
 // The byte of the eight beats from `from` on; a beat that is not there is 0.
@@ -24,10 +24,8 @@ fn octet(beats: &[u8], from: usize) -> u8
     ensures { result ≡ spell 8 (drop from beats.now) }
 {
     let mut byte: u8 = 0;
-    let mut at = 0;
-    while at < 8 {
+    for at in 0..8 {
         byte = byte * 2 + beat(beats, from + at);
-        at += 1;
     }
     byte
 }
@@ -38,10 +36,8 @@ pub fn pack(beats: &[u8], out: &mut [u8])
         × (length out.old ≡ bytes_for (length beats.now)) }
     ensures { out.new ≡ packed beats.now }
 {
-    let mut at = 0;
-    while at < out.len() {
-        out[at] = octet(beats, 8 * at);
-        at += 1;
+    for (at, byte) in out.iter_mut().enumerate() {
+        *byte = octet(beats, 8 * at);
     }
 }
 
@@ -61,12 +57,10 @@ pub fn unpack(src: &[u8], out: &mut [u8]) -> bool
     ensures out_after { out.new ≡ unpacked (length out.old) src.now }
 {
     let mut byte: u8 = 0;
-    let mut at = 0;
-    while at < out.len() {
+    for (at, beat) in out.iter_mut().enumerate() {
         let from = current(src, at, byte);
-        out[at] = from / 128;
+        *beat = from / 128;
         byte = from % 128 * 2;
-        at += 1;
     }
     byte == 0
 }

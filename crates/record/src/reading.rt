@@ -4,10 +4,10 @@ ghost use Rattle.std.specs.Prelude.{◌≡◌};
 ghost use Rattle.refusal.specs.Answer.{surplus};
 ghost use Rattle.record.specs.Parts as said;
 
-use refusal::{Refusal, Verdict};
+use refusal::{Refusal, Told};
 
 // What a record says: the counts and the number of its form, and how many bytes it takes.
-#[derive(Clone, Copy)]
+#[derive(Clone, Copy, Debug, PartialEq, Eq)]
 pub struct Order {
     pub t: u64,
     pub s: u64,
@@ -15,68 +15,81 @@ pub struct Order {
     pub consumed: u64,
 }
 
-// The answer of reading a record: what it says; or why it is refused, and how many bytes to pass over.
-#[derive(Clone, Copy)]
-pub enum Reading {
-    Accepted(Order),
-    Refused(Refusal, u64),
+// Why a record is refused, and how many bytes to pass over.
+#[derive(Clone, Copy, Debug, PartialEq, Eq)]
+pub struct Unread {
+    pub why: Refusal,
+    pub consumed: u64,
 }
 
-impl Reading {
+// The parts of the answer of reading a record: what it says; or why it is refused, and how many bytes to pass over.
+pub trait Reading {
+    ghost answer: { Self → said.Reading };
+
     // [P13]
-    pub fn verdict(self) -> Verdict
-        ensures { result ≡ said.verdict self }
-    {
+    fn verdict(self) -> Result<(), Refusal>
+        ensures { result ≡ said.verdict (answer self) };
+
+    // [Q3]
+    fn surplus(self) -> i32
+        ensures { result ≡ surplus (said.verdict (answer self)) };
+
+    // [R22]
+    fn t(self) -> u64
+        ensures { result ≡ said.t (answer self) };
+
+    // [R22]
+    fn s(self) -> u64
+        ensures { result ≡ said.s (answer self) };
+
+    // [R22]
+    fn number(self) -> u64
+        ensures { result ≡ said.number (answer self) };
+
+    // The bytes that the record takes, refused or not; 0 after 9 and after 12.
+    fn consumed(self) -> u64
+        ensures { result ≡ said.consumed (answer self) };
+}
+
+impl Reading for Result<Order, Unread> {
+    ghost answer = { λ r. r };
+
+    fn verdict(self) -> Result<(), Refusal> {
         match self {
-            Reading::Accepted(_) => Verdict::Accepted,
-            Reading::Refused(why, _) => Verdict::Refused(why),
+            Ok(_) => Ok(()),
+            Err(unread) => Err(unread.why),
         }
     }
 
-    // [Q3]
-    pub fn surplus(self) -> i32
-        ensures { result ≡ surplus (said.verdict self) }
-    {
+    fn surplus(self) -> i32 {
         self.verdict().surplus()
     }
 
-    // [R22]
-    pub fn t(self) -> u64
-        ensures { result ≡ said.t self }
-    {
+    fn t(self) -> u64 {
         match self {
-            Reading::Accepted(order) => order.t,
-            Reading::Refused(_, _) => 0,
+            Ok(order) => order.t,
+            Err(_) => 0,
         }
     }
 
-    // [R22]
-    pub fn s(self) -> u64
-        ensures { result ≡ said.s self }
-    {
+    fn s(self) -> u64 {
         match self {
-            Reading::Accepted(order) => order.s,
-            Reading::Refused(_, _) => 0,
+            Ok(order) => order.s,
+            Err(_) => 0,
         }
     }
 
-    // [R22]
-    pub fn number(self) -> u64
-        ensures { result ≡ said.number self }
-    {
+    fn number(self) -> u64 {
         match self {
-            Reading::Accepted(order) => order.number,
-            Reading::Refused(_, _) => 0,
+            Ok(order) => order.number,
+            Err(_) => 0,
         }
     }
 
-    // The bytes that the record takes, refused or not; 0 after 9 and after 12.
-    pub fn consumed(self) -> u64
-        ensures { result ≡ said.consumed self }
-    {
+    fn consumed(self) -> u64 {
         match self {
-            Reading::Accepted(order) => order.consumed,
-            Reading::Refused(_, bytes) => bytes,
+            Ok(order) => order.consumed,
+            Err(unread) => unread.consumed,
         }
     }
 }

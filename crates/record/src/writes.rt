@@ -7,7 +7,7 @@ ghost use Rattle.record.specs.Bytes.{low_first};
 ghost use Rattle.record.specs.Record.{record_in, known_answer, known_left};
 
 use crate::{layout, little, pack};
-use refusal::{Answer, Refusal, Verdict};
+use refusal::Refusal;
 
 // The two bytes of L, the two of the kind, and the counts.
 fn head(long: u64, kind: u64, at: usize, t: u64, s: u64, out: &mut [u8])
@@ -23,49 +23,53 @@ fn head(long: u64, kind: u64, at: usize, t: u64, s: u64, out: &mut [u8])
 }
 
 // A record that holds the number of the form in the catalogue. [K3]
-pub fn numbered(kind: u64, at: usize, t: u64, s: u64, beats: &[u8], out: &mut [u8]) -> Answer
+pub fn numbered(
+    kind: u64,
+    at: usize,
+    t: u64,
+    s: u64,
+    beats: &[u8],
+    out: &mut [u8],
+) -> Result<u64, Refusal>
     requires { at ≡ 4 }
     ensures value { result ≡ known_answer t s beats.now
         (record_in (of.Layout.Numbered at by.Numbering.Catalogue) kind t s beats.now) out.old }
     ensures out_after { out.new ≡ known_left t s beats.now
         (record_in (of.Layout.Numbered at by.Numbering.Catalogue) kind t s beats.now) out.old }
 {
-    let answer = number::number(t, s, beats);
-    match answer {
-        Answer::Refused(why) => Answer::Refused(why),
-        Answer::Value(number) => {
-            let from = at + 2;
-            let end = from + layout::NUMBER;
-            if out.len() < end {
-                return Answer::Refused(Refusal::NoRoom);
-            }
-            head(end as u64 - 2, kind, at, t, s, out);
-            little::spell(number, &mut out[from..end]);
-            Answer::Value(end as u64)
-        }
+    let number = number::number(t, s, beats)?;
+    let from = at + 2;
+    let end = from + layout::NUMBER;
+    if out.len() < end {
+        return Err(Refusal::NoRoom);
     }
+    head(end as u64 - 2, kind, at, t, s, out);
+    little::spell(number, &mut out[from..end]);
+    Ok(end as u64)
 }
 
 // A record that holds the packed beats.
-pub fn beaten(kind: u64, at: usize, t: u64, s: u64, beats: &[u8], out: &mut [u8]) -> Answer
+pub fn beaten(
+    kind: u64,
+    at: usize,
+    t: u64,
+    s: u64,
+    beats: &[u8],
+    out: &mut [u8],
+) -> Result<u64, Refusal>
     requires { at ≡ 4 }
     ensures value { result ≡ known_answer t s beats.now
         (record_in (of.Layout.Beaten at) kind t s beats.now) out.old }
     ensures out_after { out.new ≡ known_left t s beats.now
         (record_in (of.Layout.Beaten at) kind t s beats.now) out.old }
 {
-    let verdict = schedule::check(t, s, beats);
-    match verdict {
-        Verdict::Refused(why) => Answer::Refused(why),
-        Verdict::Accepted => {
-            let from = at + 2;
-            let past = from + pack::bytes_for(beats.len());
-            if out.len() < past {
-                return Answer::Refused(Refusal::NoRoom);
-            }
-            head(past as u64 - 2, kind, at, t, s, out);
-            pack::pack(beats, &mut out[from..past]);
-            Answer::Value(past as u64)
-        }
+    schedule::check(t, s, beats)?;
+    let from = at + 2;
+    let past = from + pack::bytes_for(beats.len());
+    if out.len() < past {
+        return Err(Refusal::NoRoom);
     }
+    head(past as u64 - 2, kind, at, t, s, out);
+    pack::pack(beats, &mut out[from..past]);
+    Ok(past as u64)
 }

@@ -5,7 +5,7 @@ use mathlib.Core.List.{List, [], ◌∷◌}
 use mathlib.Core.Path.{◌≡◌, refl, ◌∙◌, ap, sym}
 use native.Mathlib.Omega.{arith}
 use lib.IntN.{pos, negsuc}
-use Rattle.refusal.specs.declared.Answer.{Answer}
+use Rattle.std.proofs.Common.{ℕ, Ok, Err}
 use Rattle.refusal.specs.declared.Refusal.TheVariants.{
   TooManyTasks,
   MoreDownThanUp,
@@ -15,7 +15,6 @@ use Rattle.refusal.specs.declared.Refusal.TheVariants.{
   WrongTakeUps,
   NoSuchOutline,
 }
-use Rattle.refusal.specs.declared.Verdict.{Verdict}
 use Rattle.refusal.specs.Refusal.{refusal_number, refusal_place, refusal_surplus}
 use Rattle.refusal.specs.Answer.{refusal, place, surplus, verdict, value, answer, left}
 use Rattle.refusal.specs.Rows.{Row, ◌⇒◌, judge, test}
@@ -42,41 +41,41 @@ no-surplus : refusal_surplus (BadBeat 3) ≡ pos 0
 no-surplus = refl
 
 -- a verdict as numbers
-accepted-refusal : refusal Verdict.Accepted ≡ 0
+accepted-refusal : refusal (Ok tt) ≡ 0
 accepted-refusal = refl
 
-refused-refusal : refusal (Verdict.Refused (EmptyHand 2)) ≡ 5
+refused-refusal : refusal (Err (EmptyHand 2)) ≡ 5
 refused-refusal = refl
 
-accepted-place : place Verdict.Accepted ≡ 0
+accepted-place : place (Ok tt) ≡ 0
 accepted-place = refl
 
-refused-place : place (Verdict.Refused (EmptyHand 2)) ≡ 2
+refused-place : place (Err (EmptyHand 2)) ≡ 2
 refused-place = refl
 
-accepted-surplus : surplus Verdict.Accepted ≡ pos 0
+accepted-surplus : surplus (Ok tt) ≡ pos 0
 accepted-surplus = refl
 
-refused-surplus : surplus (Verdict.Refused (WrongTakeUps (pos 1))) ≡ pos 1
+refused-surplus : surplus (Err (WrongTakeUps (pos 1))) ≡ pos 1
 refused-surplus = refl
 
 -- the parts of an answer, and the answer from its parts: a refused call has no value
-accepted-verdict : verdict (Answer.Value 7) ≡ Verdict.Accepted
+accepted-verdict : verdict {A = ℕ} (Ok 7) ≡ Ok tt
 accepted-verdict = refl
 
-refused-verdict : verdict (Answer.Refused WrongLength) ≡ Verdict.Refused WrongLength
+refused-verdict : verdict {A = ℕ} (Err WrongLength) ≡ Err WrongLength
 refused-verdict = refl
 
-accepted-value : value (Answer.Value 7) ≡ 7
+accepted-value : value (Ok 7) ≡ 7
 accepted-value = refl
 
-refused-value : value (Answer.Refused WrongLength) ≡ 0
+refused-value : value (Err WrongLength) ≡ 0
 refused-value = refl
 
-accepted-answer : answer Verdict.Accepted 7 ≡ Answer.Value 7
+accepted-answer : answer (Ok tt) 7 ≡ Ok 7
 accepted-answer = refl
 
-refused-answer : answer (Verdict.Refused WrongLength) 7 ≡ Answer.Refused WrongLength
+refused-answer : answer (Err WrongLength) 7 ≡ Err WrongLength
 refused-answer = refl
 
 -- a row that holds and one that does not
@@ -90,10 +89,10 @@ row-fails = refl
 abbrev rows : List Row
 rows = (false ⇒ TooManyTasks) ∷ (true ⇒ MoreDownThanUp) ∷ (true ⇒ WrongLength) ∷ []
 
-judged-second : judge rows ≡ Verdict.Refused MoreDownThanUp
+judged-second : judge rows ≡ Err MoreDownThanUp
 judged-second = refl
 
-judged-none : judge ((false ⇒ TooManyTasks) ∷ (false ⇒ MoreDownThanUp) ∷ []) ≡ Verdict.Accepted
+judged-none : judge ((false ⇒ TooManyTasks) ∷ (false ⇒ MoreDownThanUp) ∷ []) ≡ Ok tt
 judged-none = refl
 
 -- in the words of the theorems: 2 is given, and 3 is not, though its row holds too
@@ -104,8 +103,8 @@ not-given-third : Given rows WrongLength → ⊥
 not-given-third g = omega (arith, ap refusal (sym judged-second ∙ given-refused rows WrongLength g))
 
 -- what a call leaves: its work; refused, what was lent
-leaves-work : left Verdict.Accepted (1 ∷ []) (0 ∷ []) ≡ 1 ∷ []
+leaves-work : left (Ok tt) (1 ∷ []) (0 ∷ []) ≡ 1 ∷ []
 leaves-work = refl
 
-leaves-lent : left (Verdict.Refused WrongLength) (1 ∷ []) (0 ∷ []) ≡ 0 ∷ []
+leaves-lent : left (Err WrongLength) (1 ∷ []) (0 ∷ []) ≡ 0 ∷ []
 leaves-lent = refl

@@ -7,26 +7,26 @@ use mathlib.Core.List.{List, ◌++◌}
 use mathlib.Core.Path.{◌≡◌, refl, sym, ◌∙◌, ap}
 use Prim.Native.Nat.{ℕ}
 use lib.ListN.{take, drop, take-append-drop}
+use Rattle.std.proofs.Common.{Ok, Err}
 use Rattle.refusal.specs.declared.Refusal.{Refusal}
-use Rattle.refusal.specs.declared.Verdict.{Verdict}
-use Rattle.refusal.specs.Answer.{left}
+use Rattle.refusal.specs.Answer.{Verdict, left}
 
-pub left-refused : {v : Verdict} {why : Refusal} → v ≡ Verdict.Refused why → (done lent : List ℕ)
+pub left-refused : {v : Verdict} {why : Refusal} → v ≡ Err why → (done lent : List ℕ)
     → lent ≡ left v done lent
 left-refused e done lent = ap (λ (w : Verdict). left w done lent) (sym e)
 
-pub left-accepted : {v : Verdict} → v ≡ Verdict.Accepted → (done lent : List ℕ) → done ≡ left v done lent
+pub left-accepted : {v : Verdict} → v ≡ Ok tt → (done lent : List ℕ) → done ≡ left v done lent
 left-accepted e done lent = ap (λ (w : Verdict). left w done lent) (sym e)
 
-pub refused-left : {v : Verdict} {why : Refusal} → v ≡ Verdict.Refused why → (done lent : List ℕ)
-    → (Verdict.Refused why ≡ v) × (lent ≡ left v done lent)
+pub refused-left : {v : Verdict} {why : Refusal} → v ≡ Err why → (done lent : List ℕ)
+    → (Err why ≡ v) × (lent ≡ left v done lent)
 refused-left e done lent = (sym e, left-refused e done lent)
 
-pub accepted-left : {v : Verdict} → v ≡ Verdict.Accepted → {c done : List ℕ} → c ≡ done → (lent : List ℕ)
-    → (Verdict.Accepted ≡ v) × (c ≡ left v done lent)
+pub accepted-left : {v : Verdict} → v ≡ Ok tt → {c done : List ℕ} → c ≡ done → (lent : List ℕ)
+    → (Ok tt ≡ v) × (c ≡ left v done lent)
 accepted-left e {done = done} d lent = (sym e, d ∙ left-accepted e done lent)
 
 pub left-part : (v : Verdict) (n : ℕ) (done lent : List ℕ)
     → left v done (take n lent) ++ drop n lent ≡ left v (done ++ drop n lent) lent
-left-part Verdict.Accepted n done lent = refl
-left-part (Verdict.Refused why) n done lent = take-append-drop n lent
+left-part (Ok unit) n done lent = refl
+left-part (Err why) n done lent = take-append-drop n lent

@@ -12,30 +12,31 @@ use mathlib.Core.List.{List, [], ◌∷◌, ◌++◌}
 use mathlib.Core.Path.{◌≡◌, refl, ◌∙◌, sym, subst}
 use Prim.Native.Nat.{ℕ}
 use native.Mathlib.Omega.{arith}
+use Rattle.std.proofs.Common.{Ok, Err}
 use Rattle.refusal.specs.declared.Refusal.{Refusal}
-use Rattle.refusal.specs.declared.Verdict.{Verdict}
+use Rattle.refusal.specs.Answer.{Verdict}
 use Rattle.refusal.specs.Rows.{Row, ◌⇒◌, judge}
 
-pub judge-refused : (l m : List Row) (why : Refusal) → judge l ≡ Verdict.Refused why
-    → judge (l ++ m) ≡ Verdict.Refused why
+pub judge-refused : (l m : List Row) (why : Refusal) → judge l ≡ Err why
+    → judge (l ++ m) ≡ Err why
 judge-refused [] m why e = let z : ◌≡◌ {A = ℕ} 0 1 = cc in absurd (omega arith)
 judge-refused ((true ⇒ first) ∷ l) m why e = e
 judge-refused ((false ⇒ first) ∷ l) m why e = judge-refused l m why e
 
-pub judge-accepted : (l m : List Row) → judge l ≡ Verdict.Accepted → judge (l ++ m) ≡ judge m
+pub judge-accepted : (l m : List Row) → judge l ≡ Ok tt → judge (l ++ m) ≡ judge m
 judge-accepted [] m e = refl
 judge-accepted ((true ⇒ first) ∷ l) m e = let z : ◌≡◌ {A = ℕ} 0 1 = cc in absurd (omega arith)
 judge-accepted ((false ⇒ first) ∷ l) m e = judge-accepted l m e
 
-pub judge-front : (l m : List Row) → judge (l ++ m) ≡ Verdict.Accepted → judge l ≡ Verdict.Accepted
+pub judge-front : (l m : List Row) → judge (l ++ m) ≡ Ok tt → judge l ≡ Ok tt
 judge-front [] m e = refl
 judge-front ((true ⇒ first) ∷ l) m e = e
 judge-front ((false ⇒ first) ∷ l) m e = judge-front l m e
 
-pub judge-back : (l m : List Row) → judge (l ++ m) ≡ Verdict.Accepted → judge m ≡ Verdict.Accepted
+pub judge-back : (l m : List Row) → judge (l ++ m) ≡ Ok tt → judge m ≡ Ok tt
 judge-back l m e = sym (judge-accepted l m (judge-front l m e)) ∙ e
 
-pub both : {v : Verdict} {why : Refusal} {A : Type 0} → v ≡ Verdict.Accepted → v ≡ Verdict.Refused why → A
+pub both : {v : Verdict} {why : Refusal} {A : Type 0} → v ≡ Ok tt → v ≡ Err why → A
 both e f = let z : ◌≡◌ {A = ℕ} 0 1 = cc in absurd (omega arith)
 
 abbrev pub All : (Refusal → Type 0) → List Row → Type 0
@@ -43,7 +44,7 @@ All P [] = Unit {0}
 All P ((holds ⇒ why) ∷ rows) = (holds ≡ true → P why) × All P rows
 
 module _ (P : Refusal → Type 0) where
-  pub given : (rows : List Row) → All P rows → {why : Refusal} → judge rows ≡ Verdict.Refused why → P why
+  pub given : (rows : List Row) → All P rows → {why : Refusal} → judge rows ≡ Err why → P why
   given [] a e = let z : ◌≡◌ {A = ℕ} 0 1 = cc in absurd (omega arith)
   given ((true ⇒ first) ∷ rows) a {why} e = let same : first ≡ why = cc in subst P same (a.0 refl)
   given ((false ⇒ first) ∷ rows) a e = given rows a.1 e

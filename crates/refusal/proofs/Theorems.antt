@@ -10,6 +10,7 @@
 --     sixless, sixless-all     an order without such a row, which a test tells
 --     past-sixless        so where an order refuses 6, none of its first rows that are without such a row holds
 --     surplus-else        a verdict that does not answer 6 has the surplus 0 [Q2]
+--     verdict_self        a verdict is the verdict of itself
 --     verdict-answer      an answer has the verdict that it was made from
 --     answer-refused, answer-value     what an answer says of the verdict that it was made from
 -- Assumes nothing.
@@ -30,7 +31,7 @@ use borrow.Author.Tests.{eq-eqb}
 use lib.Dec.{eqb}
 use lib.IntN.{ℤ, pos}
 use lib.ListN.{get_or}
-use Rattle.refusal.specs.declared.Answer.{Answer}
+use Rattle.std.proofs.Common.{Ok, Err}
 use Rattle.refusal.specs.declared.Refusal.{Refusal}
 use Rattle.refusal.specs.declared.Refusal.TheVariants.{
   TooManyTasks,
@@ -49,9 +50,8 @@ use Rattle.refusal.specs.declared.Refusal.TheVariants.{
   NotClosed,
   NoSuchOutline,
 }
-use Rattle.refusal.specs.declared.Verdict.{Verdict}
 use Rattle.refusal.specs.Refusal.{refusal_number, refusal_place, refusal_surplus}
-use Rattle.refusal.specs.Answer.{refusal, surplus, verdict, answer}
+use Rattle.refusal.specs.Answer.{Verdict, refusal, surplus, verdict, answer}
 use Rattle.refusal.specs.Rows.{Row, ◌⇒◌, judge, test}
 use Rattle.refusal.proofs.Rows.{judge-refused, All, given}
 
@@ -61,7 +61,7 @@ pub record Given (l : List Row) (why : Refusal) : Type 0 where
   pub split : l ≡ front ++ (true ⇒ why) ∷ back
   pub before : (r : Row) → Memᴰ r front → test r ≡ false
 
-pub refused-given : (l : List Row) (why : Refusal) → judge l ≡ Verdict.Refused why → Given l why
+pub refused-given : (l : List Row) (why : Refusal) → judge l ≡ Err why → Given l why
 refused-given [] why e = let z : ◌≡◌ {A = ℕ} 0 1 = cc in absurd (omega arith)
 refused-given ((true ⇒ first) ∷ l) why e =
     let same : first ≡ why = cc in
@@ -81,21 +81,21 @@ refused-given ((false ⇒ first) ∷ l) why e =
     }
 
 front-passed : (front back : List Row) (why : Refusal) → ((r : Row) → Memᴰ r front → test r ≡ false)
-    → judge (front ++ (true ⇒ why) ∷ back) ≡ Verdict.Refused why
+    → judge (front ++ (true ⇒ why) ∷ back) ≡ Err why
 front-passed [] back why f = refl
 front-passed ((true ⇒ first) ∷ front) back why f = absurd (true≢false (f (true ⇒ first) (Memᴰ.head refl)))
 front-passed ((false ⇒ first) ∷ front) back why f = front-passed front back why (λ r m. f r (Memᴰ.tail m))
 
-pub given-refused : (l : List Row) (why : Refusal) → Given l why → judge l ≡ Verdict.Refused why
+pub given-refused : (l : List Row) (why : Refusal) → Given l why → judge l ≡ Err why
 given-refused l why g = ap judge g.split ∙ front-passed g.front g.back why g.before
 
-pub accepted-none : (l : List Row) → judge l ≡ Verdict.Accepted → (r : Row) → Memᴰ r l → test r ≡ false
+pub accepted-none : (l : List Row) → judge l ≡ Ok tt → (r : Row) → Memᴰ r l → test r ≡ false
 accepted-none [] e r m = absurd (Memᴰ.not-nil m)
 accepted-none ((true ⇒ first) ∷ l) e r m = let z : ◌≡◌ {A = ℕ} 0 1 = cc in absurd (omega arith)
 accepted-none ((false ⇒ first) ∷ l) e r m =
     ⊎_elim (λ here. ap test here) (λ later. accepted-none l e r later) (Memᴰ.cases_cons m)
 
-pub none-accepted : (l : List Row) → ((r : Row) → Memᴰ r l → test r ≡ false) → judge l ≡ Verdict.Accepted
+pub none-accepted : (l : List Row) → ((r : Row) → Memᴰ r l → test r ≡ false) → judge l ≡ Ok tt
 none-accepted [] f = refl
 none-accepted ((true ⇒ first) ∷ l) f = absurd (true≢false (f (true ⇒ first) (Memᴰ.head refl)))
 none-accepted ((false ⇒ first) ∷ l) f = none-accepted l (λ r m. f r (Memᴰ.tail m))
@@ -150,8 +150,8 @@ pub six-given : (P : ℤ → Type 0) (rows : List Row) → All (Six P) rows → 
 six-given P rows a = by (judge rows) refl
   where
     by : (v : Verdict) → judge rows ≡ v → refusal v ≡ 6 → P (surplus v)
-    by Verdict.Accepted e six = absurd (omega arith)
-    by (Verdict.Refused why) e six = given (Six P) rows a e six
+    by (Ok unit) e six = absurd (omega arith)
+    by (Err why) e six = given (Six P) rows a e six
 
 abbrev pub sixless : List Row → Bool
 sixless [] = true
@@ -165,31 +165,35 @@ sixless-all P ((holds ⇒ why) ∷ rows) e =
     λ six. true≢false (sym both.0 ∙ ap not (eq-eqb (refusal_number why) 6 six)) in
     (λ so six. absurd (other six), sixless-all P rows both.1)
 
-pub past-sixless : (l m : List Row) → sixless l ≡ true → refusal (judge (l ++ m)) ≡ 6 → judge l ≡ Verdict.Accepted
+pub past-sixless : (l m : List Row) → sixless l ≡ true → refusal (judge (l ++ m)) ≡ 6 → judge l ≡ Ok tt
 past-sixless l m free six = by (judge l) refl
   where
-    by : (v : Verdict) → judge l ≡ v → judge l ≡ Verdict.Accepted
-    by Verdict.Accepted e = e
-    by (Verdict.Refused why) e =
+    by : (v : Verdict) → judge l ≡ v → judge l ≡ Ok tt
+    by (Ok unit) e = e
+    by (Err why) e =
         let none = sixless-all (λ z. ⊥) l free in
         absurd (six-given (λ z. ⊥) l none (ap refusal (e ∙ sym (judge-refused l m why e)) ∙ six))
 
 pub surplus-else : (v : Verdict) → (refusal v ≡ 6 → ⊥) → surplus v ≡ pos 0
-surplus-else Verdict.Accepted other = refl
-surplus-else (Verdict.Refused why) other = (named_back why).3 other
+surplus-else (Ok unit) other = refl
+surplus-else (Err why) other = (named_back why).3 other
 
-pub accepted-zero : (v : Verdict) → refusal v ≡ 0 → v ≡ Verdict.Accepted
-accepted-zero Verdict.Accepted e = refl
-accepted-zero (Verdict.Refused why) e = absurd (omega (arith, (named_back why).1))
+pub accepted-zero : (v : Verdict) → refusal v ≡ 0 → v ≡ Ok tt
+accepted-zero (Ok unit) e = refl
+accepted-zero (Err why) e = absurd (omega (arith, (named_back why).1))
+
+pub verdict_self : (v : Verdict) → verdict v ≡ v
+verdict_self (Ok unit) = refl
+verdict_self (Err why) = refl
 
 pub verdict-answer : (v : Verdict) (n : ℕ) → verdict (answer v n) ≡ v
-verdict-answer Verdict.Accepted n = refl
-verdict-answer (Verdict.Refused why) n = refl
+verdict-answer (Ok unit) n = refl
+verdict-answer (Err why) n = refl
 
-pub answer-refused : (v : Verdict) (n : ℕ) {why : Refusal} → answer v n ≡ Answer.Refused why → v ≡ Verdict.Refused why
-answer-refused Verdict.Accepted n e = let z : ◌≡◌ {A = ℕ} 0 1 = cc in absurd (omega arith)
-answer-refused (Verdict.Refused first) n e = cc
+pub answer-refused : (v : Verdict) (n : ℕ) {why : Refusal} → answer v n ≡ Err why → v ≡ Err why
+answer-refused (Ok unit) n e = let z : ◌≡◌ {A = ℕ} 0 1 = cc in absurd (omega arith)
+answer-refused (Err first) n e = cc
 
-pub answer-value : (v : Verdict) (n : ℕ) {m : ℕ} → answer v n ≡ Answer.Value m → (v ≡ Verdict.Accepted) × (m ≡ n)
-answer-value Verdict.Accepted n e = (refl, cc)
-answer-value (Verdict.Refused first) n e = let z : ◌≡◌ {A = ℕ} 0 1 = cc in absurd (omega arith)
+pub answer-value : (v : Verdict) (n : ℕ) {m : ℕ} → answer v n ≡ Ok m → (v ≡ Ok tt) × (m ≡ n)
+answer-value (Ok unit) n e = (refl, cc)
+answer-value (Err first) n e = let z : ◌≡◌ {A = ℕ} 0 1 = cc in absurd (omega arith)

@@ -3,17 +3,17 @@
 --     judge           the verdict of an order: the first row whose test holds refuses; where none does, the call is
 --                     accepted [R11]
 --     test            the test of a row
-use Rattle.std.specs.Prelude.{Bool, true, false, List, [], ◌∷◌}
+use Rattle.std.specs.Prelude.{Bool, true, false, List, [], ◌∷◌, Ok, Err}
 use Rattle.refusal.specs.declared.Refusal.{Refusal}
-use Rattle.refusal.specs.declared.Verdict.{Verdict}
+use Rattle.refusal.specs.Answer.{Verdict}
 
 infix 20 ◌⇒◌
 pub data Row : Type 0 where
   ◌⇒◌ : Bool → Refusal → Row
 
 abbrev pub judge : List Row → Verdict
-judge [] = Verdict.Accepted
-judge ((true ⇒ why) ∷ rows) = Verdict.Refused why
+judge [] = Ok tt
+judge ((true ⇒ why) ∷ rows) = Err why
 judge ((false ⇒ why) ∷ rows) = judge rows
 
 abbrev pub test : Row → Bool

@@ -1,16 +1,17 @@
-// The refusals of the manual, "Refusal numbers", one named case for each row of its table, and two kinds
-// of answer that can be one; the third, of reading a record, is `Reading` of the crate `record`. Every function
-// of the library that can refuse answers one of the three, or to a C host its number, and passes a refusal
-// on as it got it. The contracts cite specs/Refusal and specs/Answer. [P1] [P13]
+// The refusals of the manual, "Refusal numbers", one named case for each row of its table. Every function of the
+// library that can refuse answers a `Result` whose error is a refusal, or to a C host its number, and passes a refusal
+// on as it got it; only a record that cannot be read has more to say, `Unread` of the crate `record`. `Told` is what
+// any such answer says in numbers. The contracts cite specs/Refusal and specs/Answer. [P1] [P13]
 #![tactic(auto)]
 
 ghost use Rattle.std.specs.Prelude.{◌≡◌};
 ghost use Rattle.refusal.specs.Refusal.{refusal_number, refusal_place, refusal_surplus};
 ghost use Rattle.refusal.specs.Answer as answer;
+ghost use Rattle.refusal.specs.Answer.{Verdict};
 
 // Why a call was refused. A case that holds a number names the beat or the line at fault, counted from 0; but 6 holds
 // how many ones there are beyond those that were named, below 0 where some are missing. [R1] [Q1] [F7]
-#[derive(Clone, Copy)]
+#[derive(Clone, Copy, Debug, PartialEq, Eq)]
 pub enum Refusal {
     // 1: more tasks than a schedule may have
     TooManyTasks,
@@ -45,7 +46,7 @@ pub enum Refusal {
 }
 
 impl Refusal {
-    // The number of the row.
+    // The number of the row: a method and no `From`, since a refusal has three numbers.
     pub fn number(self) -> u64
         ensures { result ≡ refusal_number self }
     {
@@ -102,75 +103,52 @@ impl Refusal {
     }
 }
 
-// The answer of a call that gives nothing but its consent.
-#[derive(Clone, Copy)]
-pub enum Verdict {
-    Accepted,
-    Refused(Refusal),
+// What a call says in numbers, whatever it gives where it is not refused: it answers a `Result` of that and its
+// refusal.
+pub trait Told {
+    ghost said: { Self → Verdict };
+
+    // The number of the refusal, and 0 of an accepted call.
+    fn refusal(self) -> u64
+        ensures { result ≡ answer.refusal (said self) };
+
+    // The beat or the line at fault, and 0 where the refusal names none and of an accepted call.
+    fn place(self) -> u64
+        ensures { result ≡ answer.place (said self) };
+
+    // How many ones there are beyond those that were named, and 0 of a call that says nothing of them. [Q3]
+    fn surplus(self) -> i32
+        ensures { result ≡ answer.surplus (said self) };
 }
 
-impl Verdict {
-    pub fn refusal(self) -> u64
-        ensures { result ≡ answer.refusal self }
-    {
+impl<T: Drop> Told for Result<T, Refusal> {
+    ghost said = { answer.verdict };
+
+    fn refusal(self) -> u64 {
         match self {
-            Verdict::Accepted => 0,
-            Verdict::Refused(why) => why.number(),
+            Ok(_) => 0,
+            Err(why) => why.number(),
         }
     }
 
-    pub fn place(self) -> u64
-        ensures { result ≡ answer.place self }
-    {
+    fn place(self) -> u64 {
         match self {
-            Verdict::Accepted => 0,
-            Verdict::Refused(why) => why.place(),
+            Ok(_) => 0,
+            Err(why) => why.place(),
         }
     }
 
-    // [Q3]
-    pub fn surplus(self) -> i32
-        ensures { result ≡ answer.surplus self }
-    {
+    fn surplus(self) -> i32 {
         match self {
-            Verdict::Accepted => 0,
-            Verdict::Refused(why) => why.surplus(),
+            Ok(_) => 0,
+            Err(why) => why.surplus(),
         }
     }
 }
 
-// The answer of a call that gives one number.
-#[derive(Clone, Copy)]
-pub enum Answer {
-    Value(u64),
-    Refused(Refusal),
-}
-
-impl Answer {
-    // What the call says beside its number.
-    pub fn verdict(self) -> Verdict
-        ensures { result ≡ answer.verdict self }
-    {
-        match self {
-            Answer::Value(_) => Verdict::Accepted,
-            Answer::Refused(why) => Verdict::Refused(why),
-        }
-    }
-
-    // The number, and 0 after a refusal. [R7]
-    pub fn value(self) -> u64
-        ensures { result ≡ answer.value self }
-    {
-        match self {
-            Answer::Value(n) => n,
-            Answer::Refused(_) => 0,
-        }
-    }
-
-    // [Q3]
-    pub fn surplus(self) -> i32
-        ensures { result ≡ answer.surplus (answer.verdict self) }
-    {
-        self.verdict().surplus()
-    }
+// The number that a call gave, and 0 after a refusal. [R7]
+pub fn value(told: Result<u64, Refusal>) -> u64
+    ensures { result ≡ answer.value told }
+{
+    told.unwrap_or(0)
 }

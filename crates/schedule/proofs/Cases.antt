@@ -7,6 +7,7 @@ use Prim.Native.Nat.{ℕ, zero, suc, ◌<◌}
 use native.Mathlib.Omega.{arith}
 use lib.IntN.{pos, negsuc, nat_abs}
 use lib.ListN.{get_or}
+use Rattle.std.proofs.Common.{Ok, Err}
 use Rattle.bounded.specs.Bounded.{every, first_from}
 use Rattle.refusal.specs.declared.Refusal.{Refusal}
 use Rattle.refusal.specs.declared.Refusal.TheVariants.{
@@ -17,7 +18,6 @@ use Rattle.refusal.specs.declared.Refusal.TheVariants.{
   EmptyHand,
   WrongTakeUps,
 }
-use Rattle.refusal.specs.declared.Verdict.{Verdict}
 use Rattle.refusal.specs.Answer.{refusal, place}
 use Rattle.refusal.specs.Rows.{judge}
 use Rattle.refusal.proofs.Theorems.{refused-number}
@@ -208,42 +208,42 @@ unfolding first_from
 skips-to-end = refl
 
 -- the manual's examples of the check, and 4 before 5 before 6
-checked-accepts : checked 3 2 (1 ∷ 1 ∷ 0 ∷ 1 ∷ 0 ∷ []) ≡ Verdict.Accepted
+checked-accepts : checked 3 2 (1 ∷ 1 ∷ 0 ∷ 1 ∷ 0 ∷ []) ≡ Ok tt
 unfolding ones zeros first_from
 checked-accepts = refl
 
 -- [E2]
-checked-200 : checked 200 0 [] ≡ Verdict.Refused TooManyTasks
+checked-200 : checked 200 0 [] ≡ Err TooManyTasks
 checked-200 = refl
 
 -- [E2]
-checked-2-3 : checked 2 3 [] ≡ Verdict.Refused MoreDownThanUp
+checked-2-3 : checked 2 3 [] ≡ Err MoreDownThanUp
 checked-2-3 = refl
 
 -- [E2]
-checked-short : checked 2 1 (1 ∷ 1 ∷ []) ≡ Verdict.Refused WrongLength
+checked-short : checked 2 1 (1 ∷ 1 ∷ []) ≡ Err WrongLength
 checked-short = refl
 
-checked-02 : checked 1 1 (0 ∷ 2 ∷ []) ≡ Verdict.Refused (BadBeat 1)
+checked-02 : checked 1 1 (0 ∷ 2 ∷ []) ≡ Err (BadBeat 1)
 unfolding first_from
 checked-02 = refl
 
 -- [A4] [E2]
-checked-1001 : checked 2 2 (1 ∷ 0 ∷ 0 ∷ 1 ∷ []) ≡ Verdict.Refused (EmptyHand 2)
+checked-1001 : checked 2 2 (1 ∷ 0 ∷ 0 ∷ 1 ∷ []) ≡ Err (EmptyHand 2)
 unfolding ones zeros first_from
 checked-1001 = refl
 
 -- [E2]
-checked-111 : checked 2 1 (1 ∷ 1 ∷ 1 ∷ []) ≡ Verdict.Refused (WrongTakeUps (pos 1))
+checked-111 : checked 2 1 (1 ∷ 1 ∷ 1 ∷ []) ≡ Err (WrongTakeUps (pos 1))
 unfolding ones zeros first_from
 checked-111 = refl
 
 -- a one is missing: ℤ has -1 as negsuc 0 [Q7]
-pub checked-1010 : checked 3 1 (1 ∷ 0 ∷ 1 ∷ 0 ∷ []) ≡ Verdict.Refused (WrongTakeUps (negsuc 0))
+pub checked-1010 : checked 3 1 (1 ∷ 0 ∷ 1 ∷ 0 ∷ []) ≡ Err (WrongTakeUps (negsuc 0))
 unfolding ones zeros first_from
 checked-1010 = refl
 
-checked-10 : checked 2 0 (1 ∷ 0 ∷ []) ≡ Verdict.Refused (WrongTakeUps (negsuc 0))
+checked-10 : checked 2 0 (1 ∷ 0 ∷ []) ≡ Err (WrongTakeUps (negsuc 0))
 unfolding ones zeros first_from
 checked-10 = refl
 
@@ -313,45 +313,45 @@ refuses-elsewhere r =
 refuses-no-later-row : Refuses 1 1 (0 ∷ 2 ∷ []) (EmptyHand 0) → ⊥
 refuses-no-later-row r = omega (arith, ap refusal (sym checked-02 ∙ refuses-refused 1 1 (0 ∷ 2 ∷ []) (EmptyHand 0) r))
 
-right-11010 : Right 3 2 (1 ∷ 1 ∷ 0 ∷ 1 ∷ 0 ∷ []) Verdict.Accepted
+right-11010 : Right 3 2 (1 ∷ 1 ∷ 0 ∷ 1 ∷ 0 ∷ []) (Ok tt)
 right-11010 = ((omega arith, omega arith), fits-11010)
 
-right-1001 : Right 2 2 (1 ∷ 0 ∷ 0 ∷ 1 ∷ []) (Verdict.Refused (EmptyHand 2))
+right-1001 : Right 2 2 (1 ∷ 0 ∷ 0 ∷ 1 ∷ []) (Err (EmptyHand 2))
 right-1001 = refuses-1001
 
-not-right-1001 : Right 2 2 (1 ∷ 0 ∷ 0 ∷ 1 ∷ []) Verdict.Accepted → ⊥
+not-right-1001 : Right 2 2 (1 ∷ 0 ∷ 0 ∷ 1 ∷ []) (Ok tt) → ⊥
 not-right-1001 r = ahead-1001 r.1
 
-not-right-11010 : (why : Refusal) → Right 3 2 (1 ∷ 1 ∷ 0 ∷ 1 ∷ 0 ∷ []) (Verdict.Refused why) → ⊥
+not-right-11010 : (why : Refusal) → Right 3 2 (1 ∷ 1 ∷ 0 ∷ 1 ∷ 0 ∷ []) (Err why) → ⊥
 not-right-11010 = refuses-nothing
 
 -- the ends of the check's order, each by its first row and by its last
-hand-1001 : judge (hand_rows 2 (1 ∷ 0 ∷ 0 ∷ 1 ∷ [])) ≡ Verdict.Refused (EmptyHand 2)
+hand-1001 : judge (hand_rows 2 (1 ∷ 0 ∷ 0 ∷ 1 ∷ [])) ≡ Err (EmptyHand 2)
 unfolding ones zeros first_from
 hand-1001 = refl
 
-hand-111 : judge (hand_rows 2 (1 ∷ 1 ∷ 1 ∷ [])) ≡ Verdict.Refused (WrongTakeUps (pos 1))
+hand-111 : judge (hand_rows 2 (1 ∷ 1 ∷ 1 ∷ [])) ≡ Err (WrongTakeUps (pos 1))
 unfolding ones zeros first_from
 hand-111 = refl
 
-play-02 : judge (play_rows 1 (0 ∷ 2 ∷ [])) ≡ Verdict.Refused (BadBeat 1)
+play-02 : judge (play_rows 1 (0 ∷ 2 ∷ [])) ≡ Err (BadBeat 1)
 unfolding first_from
 play-02 = refl
 
-play-111 : judge (play_rows 2 (1 ∷ 1 ∷ 1 ∷ [])) ≡ Verdict.Refused (WrongTakeUps (pos 1))
+play-111 : judge (play_rows 2 (1 ∷ 1 ∷ 1 ∷ [])) ≡ Err (WrongTakeUps (pos 1))
 unfolding ones zeros first_from
 play-111 = refl
 
-beats-11 : judge (beat_rows 2 1 (1 ∷ 1 ∷ [])) ≡ Verdict.Refused WrongLength
+beats-11 : judge (beat_rows 2 1 (1 ∷ 1 ∷ [])) ≡ Err WrongLength
 beats-11 = refl
 
-beats-111 : judge (beat_rows 2 1 (1 ∷ 1 ∷ 1 ∷ [])) ≡ Verdict.Refused (WrongTakeUps (pos 1))
+beats-111 : judge (beat_rows 2 1 (1 ∷ 1 ∷ 1 ∷ [])) ≡ Err (WrongTakeUps (pos 1))
 unfolding ones zeros first_from
 beats-111 = refl
 
-rows-200 : judge (check_rows 200 0 []) ≡ Verdict.Refused TooManyTasks
+rows-200 : judge (check_rows 200 0 []) ≡ Err TooManyTasks
 rows-200 = refl
 
-rows-111 : judge (check_rows 2 1 (1 ∷ 1 ∷ 1 ∷ [])) ≡ Verdict.Refused (WrongTakeUps (pos 1))
+rows-111 : judge (check_rows 2 1 (1 ∷ 1 ∷ 1 ∷ [])) ≡ Err (WrongTakeUps (pos 1))
 unfolding ones zeros first_from
 rows-111 = refl

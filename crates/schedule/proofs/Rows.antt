@@ -12,8 +12,8 @@ use Prim.Native.Nat.{ℕ, ◌+◌, ◌/◌, ◌≤◌, ◌<◌}
 use native.Mathlib.Omega.{arith}
 use borrow.Author.Tests.{lt-ltb, le-ltb, eq-eqb, ne_eqb, ltb-false}
 use lib.ListN.{length, get_or}
+use Rattle.std.proofs.Common.{Ok, Err}
 use Rattle.refusal.specs.declared.Refusal.TheVariants.{WrongLength, BadBeat, EmptyHand, WrongTakeUps}
-use Rattle.refusal.specs.declared.Verdict.{Verdict}
 use Rattle.refusal.specs.Rows.{judge}
 use Rattle.schedule.specs.Schedule.{ones, zeros}
 use Rattle.schedule.specs.Check.{bad_beat, empty_hand, is_bad, surplus_of, beat_rows}
@@ -33,21 +33,21 @@ pub hand-ones : (b : List ℕ) (hand : ℕ) → length b ≤ bad_beat b → hand
 hand-ones b hand h e = omega (arith, tally b (sound-beats b h))
 
 module _ (t s : ℕ) (b : List ℕ) where
-  pub wrong-length : ((length b ≡ t + s) → ⊥) → judge (beat_rows t s b) ≡ Verdict.Refused WrongLength
+  pub wrong-length : ((length b ≡ t + s) → ⊥) → judge (beat_rows t s b) ≡ Err WrongLength
   wrong-length n = simp (ne_eqb (length b) (t + s) n)
 
   module _ (n : length b ≡ t + s) where
-    pub bad-beat : bad_beat b < length b → judge (beat_rows t s b) ≡ Verdict.Refused (BadBeat (bad_beat b))
+    pub bad-beat : bad_beat b < length b → judge (beat_rows t s b) ≡ Err (BadBeat (bad_beat b))
     bad-beat h = simp (eq-eqb (length b) (t + s) n, lt-ltb (bad_beat b) (length b) h)
 
     module _ (h : length b ≤ bad_beat b) where
-      pub empty-hand : empty_hand b < length b → judge (beat_rows t s b) ≡ Verdict.Refused (EmptyHand (empty_hand b))
+      pub empty-hand : empty_hand b < length b → judge (beat_rows t s b) ≡ Err (EmptyHand (empty_hand b))
       empty-hand k =
           simp (eq-eqb (length b) (t + s) n, le-ltb (bad_beat b) (length b) h, lt-ltb (empty_hand b) (length b) k)
 
       module _ (k : length b ≤ empty_hand b) where
         pub wrong-take-ups : ((ones b ≡ t) → ⊥)
-            → judge (beat_rows t s b) ≡ Verdict.Refused (WrongTakeUps (surplus_of t b))
+            → judge (beat_rows t s b) ≡ Err (WrongTakeUps (surplus_of t b))
         wrong-take-ups o = simp (
           eq-eqb (length b) (t + s) n,
           le-ltb (bad_beat b) (length b) h,
@@ -55,7 +55,7 @@ module _ (t s : ℕ) (b : List ℕ) where
           ne_eqb (ones b) t o,
         )
 
-        pub accepted : ones b ≡ t → judge (beat_rows t s b) ≡ Verdict.Accepted
+        pub accepted : ones b ≡ t → judge (beat_rows t s b) ≡ Ok tt
         accepted o = simp (
           eq-eqb (length b) (t + s) n,
           le-ltb (bad_beat b) (length b) h,

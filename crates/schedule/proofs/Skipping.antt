@@ -1,5 +1,5 @@
 -- The scan for another beat: one turn of it on plain values, and what it finds.
---     Skipping, skip-start, skip-turn, skip-end, skip_stop     the beats from `from` up to `at` are v
+--     Skipping, skip-end, skip_stop     the beats from `from` up to `at` are v
 --     Skips, skipped-skips     what is known of the place that is found, from a place inside on
 --     skips-unique             it is one place
 -- Assumes nothing.
@@ -27,21 +27,7 @@ pub record Skipping (b : List ℕ) (from v at : ℕ) : Type 0 where
   pub high : at ≤ from + (length b - from)
   pub run : (k : ℕ) → from ≤ k → k < at → get_or b k 0 ≡ v
 
-pub skip-start : (b : List ℕ) (from v : ℕ) → Skipping b from v from
-skip-start b from v = record { low = omega arith; high = omega arith; run = λ k l m. absurd (omega arith) }
-
 module _ (b : List ℕ) (from v at : ℕ) (s : Skipping b from v at) where
-  pub skip-turn : at < length b → get_or b at 0 ≡ v → Skipping b from v (at + 1)
-  skip-turn h e =
-      record {
-        low = omega (arith, s.low);
-        high = omega (arith, s.high, s.low);
-        run = λ k l m. elim (dec_lt k at) [
-          | yes earlier ↦ s.run k l earlier
-          | no here ↦ let same : k ≡ at = omega arith in ap (λ (i : ℕ). get_or b i 0) same ∙ e
-        ];
-      }
-
   pub skip-end : length b ≤ at → at ≡ skipped b from v
   skip-end h =
       found-unique

@@ -22,11 +22,11 @@ use borrow.Author.Tests.{leb-true, le-leb, eqb-true, eq-eqb}
 use lib.Dec.{leb, eqb}
 use lib.IntN.{pos}
 use lib.ListN.{length, get_or, take}
+use Rattle.std.proofs.Common.{Ok, Err}
 use Rattle.bounded.specs.Bounded.{every}
 use Rattle.bounded.proofs.Every.{every-at, every_true}
 use Rattle.refusal.specs.declared.Refusal.{Refusal}
-use Rattle.refusal.specs.declared.Verdict.{Verdict}
-use Rattle.refusal.specs.Answer.{refusal, surplus}
+use Rattle.refusal.specs.Answer.{Verdict, refusal, surplus}
 use Rattle.refusal.proofs.Theorems.{six-given, surplus-else}
 use Rattle.triangle.specs.Count.{N}
 use Rattle.counts.specs.Counts.{Allowed}
@@ -54,17 +54,17 @@ use Rattle.schedule.proofs.Surplus.{check-sixes, near-sum}
 use Rattle.schedule.proofs.Verdicts.{checked-right, right-checked}
 
 module _ (t s : ℕ) (b : List ℕ) where
-  pub accepted-schedule : checked t s b ≡ Verdict.Accepted → Allowed t s × Schedule t s b
+  pub accepted-schedule : checked t s b ≡ Ok tt → Allowed t s × Schedule t s b
   accepted-schedule e = subst (Right t s b) e (checked-right t s b)
 
-  pub schedule-accepted : Allowed t s → Schedule t s b → checked t s b ≡ Verdict.Accepted
-  schedule-accepted a p = right-checked t s b Verdict.Accepted (a, p)
+  pub schedule-accepted : Allowed t s → Schedule t s b → checked t s b ≡ Ok tt
+  schedule-accepted a p = right-checked t s b (Ok tt) (a, p)
 
-  pub refused-refuses : (why : Refusal) → checked t s b ≡ Verdict.Refused why → Refuses t s b why
+  pub refused-refuses : (why : Refusal) → checked t s b ≡ Err why → Refuses t s b why
   refused-refuses why e = subst (Right t s b) e (checked-right t s b)
 
-  pub refuses-refused : (why : Refusal) → Refuses t s b why → checked t s b ≡ Verdict.Refused why
-  refuses-refused why r = right-checked t s b (Verdict.Refused why) r
+  pub refuses-refused : (why : Refusal) → Refuses t s b why → checked t s b ≡ Err why
+  refuses-refused why r = right-checked t s b (Err why) r
 
   pub six-off : refusal (checked t s b) ≡ 6 → Off t b (surplus (checked t s b))
   six-off = six-given (Off t b) (check_rows t s b) (check-sixes t b s)
@@ -80,13 +80,13 @@ module _ (t s : ℕ) (b : List ℕ) where
   six-near six = by (checked t s b) (checked-right t s b) six
     where
       by : (v : Verdict) → Right t s b v → refusal v ≡ 6 → Near t s (surplus v)
-      by Verdict.Accepted r e = absurd (omega arith)
-      by (Verdict.Refused why) (for-tasks h) e = absurd (omega arith)
-      by (Verdict.Refused why) (for-downs h k) e = absurd (omega arith)
-      by (Verdict.Refused why) (for-length a n) e = absurd (omega arith)
-      by (Verdict.Refused why) (for-beat a n p) e = absurd (omega arith)
-      by (Verdict.Refused why) (for-hand a n f p) e = absurd (omega arith)
-      by (Verdict.Refused why) (for-ups {z} a n f p o q) e =
+      by (Ok unit) r e = absurd (omega arith)
+      by (Err why) (for-tasks h) e = absurd (omega arith)
+      by (Err why) (for-downs h k) e = absurd (omega arith)
+      by (Err why) (for-length a n) e = absurd (omega arith)
+      by (Err why) (for-beat a n p) e = absurd (omega arith)
+      by (Err why) (for-hand a n f p) e = absurd (omega arith)
+      by (Err why) (for-ups {z} a n f p o q) e =
           let sound = tally b (sound-beats b (no-bad-passed b f)) in
           let own = passed-schedule b (ones b) (zeros b) (sym sound) (no-bad-passed b f) (no-bare-passed b p) refl in
           near-sum t s (ones b) z q a.1 (omega (arith, sound)) (omega (arith, sound, schedule-le own))

@@ -9,9 +9,10 @@ use native.Mathlib.Omega.{arith}
 use native.Mathlib.Decide.{dec_lt, dec_le, ℕ_discrete}
 use lib.IntN.{ℤ}
 use lib.ListN.{length}
+use Rattle.std.proofs.Common.{Ok, Err}
 use Rattle.refusal.specs.declared.Refusal.{Refusal}
 use Rattle.refusal.specs.declared.Refusal.TheVariants.{BadBeat, EmptyHand, WrongTakeUps}
-use Rattle.refusal.specs.declared.Verdict.{Verdict}
+use Rattle.refusal.specs.Answer.{Verdict}
 use Rattle.refusal.specs.Rows.{judge}
 use Rattle.refusal.proofs.Rows.{judge-refused, judge-accepted}
 use Rattle.triangle.specs.Count.{largest}
@@ -36,40 +37,40 @@ use Rattle.schedule.proofs.Reflect.{
 }
 
 module _ (t s : ℕ) (b : List ℕ) where
-  by-counts : (why : Refusal) → judge (count_rows t s) ≡ Verdict.Refused why → checked t s b ≡ Verdict.Refused why
+  by-counts : (why : Refusal) → judge (count_rows t s) ≡ Err why → checked t s b ≡ Err why
   by-counts why e = judge-refused (count_rows t s) (beat_rows t s b) why e
 
   by-beats : Allowed t s → (v : Verdict) → judge (beat_rows t s b) ≡ v → checked t s b ≡ v
   by-beats a v e = judge-accepted (count_rows t s) (beat_rows t s b) (allowed-counts t s a) ∙ e
 
-  refused : (why : Refusal) → Refuses t s b why → checked t s b ≡ Verdict.Refused why
+  refused : (why : Refusal) → Refuses t s b why → checked t s b ≡ Err why
   refused why (for-tasks h) = by-counts _ (too_many t s h)
   refused why (for-downs h k) = by-counts _ (more-down t s h k)
   refused why (for-length a n) = by-beats a _ (wrong-length t s b n)
   refused why (for-beat {at} a n p) =
       let e = first-bad b at p in
-      by-beats a _ (bad-beat t s b n (omega (arith, p.inside))) ∙ ap (λ (k : ℕ). Verdict.Refused (BadBeat k)) e
+      by-beats a _ (bad-beat t s b n (omega (arith, p.inside))) ∙ ap (λ (k : ℕ). Err (BadBeat k)) e
   refused why (for-hand {at} a n f p) =
       let e = first-bare b at p in
       by-beats a _ (empty-hand t s b n (no-bad-passed b f) (omega (arith, p.inside)))
-      ∙ ap (λ (k : ℕ). Verdict.Refused (EmptyHand k)) e
+      ∙ ap (λ (k : ℕ). Err (EmptyHand k)) e
   refused why (for-ups a n f e o q) =
       by-beats a _ (wrong-take-ups t s b n (no-bad-passed b f) (no-bare-passed b e) o)
-      ∙ ap (λ (z : ℤ). Verdict.Refused (WrongTakeUps z)) (sum-surplus t b q)
+      ∙ ap (λ (z : ℤ). Err (WrongTakeUps z)) (sum-surplus t b q)
 
   pub right-checked : (v : Verdict) → Right t s b v → checked t s b ≡ v
-  right-checked Verdict.Accepted r =
+  right-checked (Ok unit) r =
       let p = schedule-passed b t s r.1 in
       by-beats r.0 _ (accepted t s b r.1.size p.0 p.1 r.1.taken)
-  right-checked (Verdict.Refused why) r = refused why r
+  right-checked (Err why) r = refused why r
 
   -- some verdict is right: the rows are tried in their order
   refuse : {why : Refusal} → Refuses t s b why → (v : Verdict) × Right t s b v
-  refuse {why} r = (Verdict.Refused why, r)
+  refuse {why} r = (Err why, r)
 
   module _ (a : Allowed t s) (n : length b ≡ t + s) (f : length b ≤ bad_beat b) where
     right-ups : length b ≤ empty_hand b → Dec (ones b ≡ t) → (v : Verdict) × Right t s b v
-    right-ups e (yes o) = (Verdict.Accepted, (a, passed-schedule b t s n f e o))
+    right-ups e (yes o) = (Ok tt, (a, passed-schedule b t s n f e o))
     right-ups e (no o) =
         refuse (for-ups {z = surplus_of t b} a n (passed-no-bad b f) (passed-no-bare b e) o (surplus-sum t b))
 

@@ -13,7 +13,7 @@ use Rattle.std.specs.Prelude.{Bool, not, ◌&&◌, List, [], ◌∷◌, ◌++◌
 use Rattle.std.specs.Prelude.{take}
 use Rattle.bounded.specs.Bounded.{first}
 use Rattle.refusal.specs.declared.Refusal.TheVariants.{WrongLength, BadBeat, EmptyHand, WrongTakeUps}
-use Rattle.refusal.specs.declared.Verdict.{Verdict}
+use Rattle.refusal.specs.Answer.{Verdict}
 use Rattle.refusal.specs.Rows.{Row, ◌⇒◌, judge}
 use Rattle.counts.specs.Counts.{count_rows}
 use Rattle.schedule.specs.Schedule.{ones, zeros}

@@ -10,11 +10,11 @@
 --     Right           the right verdict: accepted exactly if the beats are a schedule of allowed counts, else the
 --                     refusal
 use Rattle.std.specs.Prelude.{List, ◌≢◌, ◌≡◌, ℕ, ◌+◌, ◌-◌, ◌/◌, ◌≤◌, ◌<◌, ℤ, pos, neg_ℤ, ◌+ℤ◌, ◌≤ℤ◌, length, get_or}
-use Rattle.std.specs.Prelude.{take}
+use Rattle.std.specs.Prelude.{take, Ok, Err}
 use Rattle.refusal.specs.declared.Refusal.{Refusal}
 use Rattle.refusal.specs.declared.Refusal.TheVariants.{TooManyTasks, MoreDownThanUp, WrongLength}
 use Rattle.refusal.specs.declared.Refusal.TheVariants.{BadBeat, EmptyHand, WrongTakeUps}
-use Rattle.refusal.specs.declared.Verdict.{Verdict}
+use Rattle.refusal.specs.Answer.{Verdict}
 use Rattle.triangle.specs.Count.{largest}
 use Rattle.counts.specs.Counts.{Allowed}
 use Rattle.schedule.specs.Schedule.{ones, zeros, Schedule}
@@ -51,5 +51,5 @@ pub data Refuses (t s : ℕ) (b : List ℕ) : Refusal → Type 0 where
       → ones b ≢ t → z +ℤ pos t ≡ pos (ones b) → Refuses t s b (WrongTakeUps z)
 
 abbrev pub Right : ℕ → ℕ → List ℕ → Verdict → Type 0
-Right t s b Verdict.Accepted = Allowed t s × Schedule t s b
-Right t s b (Verdict.Refused why) = Refuses t s b why
+Right t s b (Ok unit) = Allowed t s × Schedule t s b
+Right t s b (Err why) = Refuses t s b why

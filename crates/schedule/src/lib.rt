@@ -3,17 +3,17 @@
 // proofs/Theorems says what the verdicts mean.
 #![tactic(auto)]
 
-ghost use Rattle.std.specs.Prelude.{◌≡◌, ℕ, ◌+◌, ◌^◌, ◌≤◌, ◌<◌, pos, ◌-ℤ◌, length, take, get_or};
-ghost use Rattle.refusal.specs.declared.Verdict.{Verdict};
+ghost use Rattle.std.specs.Prelude.{◌≡◌, ℕ, ◌+◌, ◌^◌, ◌≤◌, ◌<◌, pos, ◌-ℤ◌, length, take, get_or, Ok};
 ghost use Rattle.refusal.specs.Rows.{judge};
 ghost use Rattle.counts.specs.Counts.{count_rows};
 ghost use Rattle.schedule.specs.Schedule.{ones, zeros};
 ghost use Rattle.schedule.specs.Skip.{skipped};
 ghost use Rattle.schedule.specs.Check.{bad_beat, empty_hand, beat_rows, checked};
 
-use refusal::{Refusal, Verdict};
+use refusal::Refusal;
 
 // The first beat that is neither 0 nor 1, or the number of beats where there is none. [F1]
+// The scope names the form of this and of `play`: a loop over the beats that yields the place by break.
 fn bad_beat(beats: &[u8]) -> usize
     ensures { result ≡ bad_beat beats.now }
 {
@@ -35,16 +35,12 @@ fn bad_beat(beats: &[u8]) -> usize
 pub fn skip(beats: &[u8], from: usize, beat: u8) -> usize
     ensures { result ≡ skipped beats.now from beat }
 {
-    let mut at = from;
-    loop {
-        if beats.len() <= at {
-            break at;
-        }
+    for at in from..beats.len() {
         if beats[at] != beat {
-            break at;
+            return at;
         }
-        at += 1;
     }
+    beats.len().max(from)
 }
 
 // How far a schedule was played, and how many tasks are in hand there.
@@ -86,44 +82,41 @@ fn beyond(t: u64, ones: u64) -> i32
 }
 
 // The refusals 3 to 6 of beats whose counts are allowed.
-fn check_beats(t: u64, s: u64, beats: &[u8]) -> Verdict
-    requires { judge (count_rows t s) ≡ Verdict.Accepted }
+fn check_beats(t: u64, s: u64, beats: &[u8]) -> Result<(), Refusal>
+    requires { judge (count_rows t s) ≡ Ok tt }
     ensures { result ≡ judge (beat_rows t s beats.now) }
 {
     let n = beats.len();
     if n as u64 != t + s {
-        return Verdict::Refused(Refusal::WrongLength);
+        return Err(Refusal::WrongLength);
     }
     let bad = bad_beat(beats);
     if bad < n {
-        return Verdict::Refused(Refusal::BadBeat(bad as u64));
+        return Err(Refusal::BadBeat(bad as u64));
     }
     let played = play(beats);
     if played.at < n {
-        return Verdict::Refused(Refusal::EmptyHand(played.at as u64));
+        return Err(Refusal::EmptyHand(played.at as u64));
     }
     if played.hand as u64 + s != t {
         let ones = (n + played.hand) / 2; // in hand are the ones without a zero of their own
-        return Verdict::Refused(Refusal::WrongTakeUps(beyond(t, ones as u64)));
+        return Err(Refusal::WrongTakeUps(beyond(t, ones as u64)));
     }
-    Verdict::Accepted // no row holds
+    Ok(()) // no row holds
 }
 
 // Checks that the beats are a schedule of t ones and s zeros. Refuses 1, 2, 3, then 4 over all beats, 5, 6.
 // [D1a] [D1d] [W1] [P1] [P2]
-pub fn check(t: u64, s: u64, beats: &[u8]) -> Verdict
+pub fn check(t: u64, s: u64, beats: &[u8]) -> Result<(), Refusal>
     ensures { result ≡ checked t s beats.now }
 {
-    let verdict = counts::allowed(t, s);
-    match verdict {
-        Verdict::Refused(why) => Verdict::Refused(why),
-        Verdict::Accepted => check_beats(t, s, beats),
-    }
+    counts::allowed(t, s)?;
+    check_beats(t, s, beats)
 }
 
 // A beat, or a byte, as a number.
 pub fn wide(byte: u8) -> u64
     ensures { result ≡ byte }
 {
-    byte as u64
+    u64::from(byte)
 }

@@ -17,9 +17,10 @@ use borrow.Author.Tests.{le-ltb}
 use lib.Dec.{eqb}
 use lib.ListN.{length, take, drop, length-append, length-drop, get_or-append}
 use lib.Seq.{take-append-le, drop-append-le}
+use Rattle.std.proofs.Common.{Ok, Err}
 use Rattle.form.specs.Answers.{number_rows}
 use Rattle.refusal.specs.declared.Refusal.{Refusal}
-use Rattle.refusal.specs.declared.Verdict.{Verdict}
+use Rattle.refusal.specs.Answer.{Verdict}
 use Rattle.refusal.specs.Refusal.{refusal_number}
 use Rattle.refusal.specs.Rows.{judge}
 use Rattle.triangle.specs.Count.{most_beats}
@@ -55,7 +56,7 @@ hand-goes : (t : ℕ) (b : List ℕ) → All Goes (hand_rows t b)
 hand-goes t b = (λ so. (λ l. refl, refl), (λ so. (λ l. refl, refl), tt))
 
 kind-goes : (k : Layout) (src : List ℕ) → is_unknown k ≡ false → {why : Refusal}
-    → judge (kind_rows k src) ≡ Verdict.Refused why → Goes why
+    → judge (kind_rows k src) ≡ Err why → Goes why
 kind-goes (Layout.Numbered at by) src u e =
     given Goes (kind_rows (Layout.Numbered at by) src)
     (λ so. (λ l. refl, refl), (λ so. (λ l. refl, refl), (λ so. (λ l. refl, refl), (λ so. (λ l. refl, refl), tt)))) e
@@ -70,13 +71,13 @@ module _ (src : List ℕ) where
   cut-ends e = let refused = read-cut most_beats src (omega arith) e in (ap ending refused, ap (passing src) refused)
 
   module _ (e : cut src ≡ false) where
-    refused-goes : {why : Refusal} → verdict_on src ≡ Verdict.Refused why → Goes why
+    refused-goes : {why : Refusal} → verdict_on src ≡ Err why → Goes why
     refused-goes {why} r = elim (dec_lt (long src) 2) [
       | yes l ↦ this (λ m. refl, refl) (read-tiny most_beats src (omega arith) e l)
       | no l ↦ by (omega arith) (is_unknown (layout_in src)) refl
     ]
       where
-        this : {first : Refusal} → Goes first → verdict_on src ≡ Verdict.Refused first → Goes why
+        this : {first : Refusal} → Goes first → verdict_on src ≡ Err first → Goes why
         this {first} goes q = let same : first ≡ why = cc in subst Goes same goes
 
         by : 2 ≤ long src → (b : Bool) → is_unknown (layout_in src) ≡ b → Goes why
@@ -87,8 +88,8 @@ module _ (src : List ℕ) where
     whole-goes = by (verdict_on src) refl
       where
         by : (v : Verdict) → verdict_on src ≡ v → (ends src ≡ false) × (passed src ≡ 2 + long src)
-        by Verdict.Accepted r = (ap ending r, ap (passing src) r)
-        by (Verdict.Refused why) r =
+        by (Ok unit) r = (ap ending r, ap (passing src) r)
+        by (Err why) r =
             (ap ending r ∙ (refused-goes r).1, ap (passing src) r ∙ (refused-goes r).0 (long src))
 
 -- a record, and what follows it
@@ -201,8 +202,8 @@ module _ (src more : List ℕ) where
     passed-alone = ap (passing both) verdict-alone ∙ by (verdict_on src)
       where
         by : (v : Verdict) → passing both v ≡ passing src v
-        by Verdict.Accepted = ap (λ (l : ℕ). 2 + l) (long_same (settled-whole src e).0)
-        by (Verdict.Refused why) = ap (eaten why) (long_same (settled-whole src e).0)
+        by (Ok unit) = ap (λ (l : ℕ). 2 + l) (long_same (settled-whole src e).0)
+        by (Err why) = ap (eaten why) (long_same (settled-whole src e).0)
 
   pub parts-alone : cut src ≡ false → 2 ≤ long src → counts_at (layout_in src) ≤ long src
       → (layout_in both ≡ layout_in src) × (ups both ≡ ups src) × (downs both ≡ downs src) × (body both ≡ body src)
@@ -216,7 +217,7 @@ module _ (src more : List ℕ) where
         ap (λ (k : Layout). body_at (counts_at k) both) same ∙ body_same at inside reaches,
       )
 
-  pub accepted-alone : verdict_on src ≡ Verdict.Accepted
+  pub accepted-alone : verdict_on src ≡ Ok tt
       → (layout_in both ≡ layout_in src) × (ups both ≡ ups src) × (downs both ≡ downs src) × (body both ≡ body src)
   accepted-alone r =
       let facts = read-facts most_beats src r in

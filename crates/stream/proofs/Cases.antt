@@ -7,8 +7,9 @@ use mathlib.Core.Path.{◌≡◌, refl, ap}
 use Prim.Native.Nat.{ℕ, ◌<◌}
 use native.Mathlib.Omega.{arith}
 use lib.ListN.{length, get_or}
+use Rattle.stream.specs.declared.Failure.{Failure}
+use Rattle.std.proofs.Common.{Ok, Err, Some, None}
 use Rattle.refusal.specs.declared.Refusal.TheVariants.{NoSuchNumber, CutShort}
-use Rattle.refusal.specs.declared.Verdict.{Verdict}
 use Rattle.triangle.specs.Count.{N}
 use Rattle.record.specs.Bytes.{value_of}
 use Rattle.stream.specs.declared.Front.{Front}
@@ -34,6 +35,7 @@ use Rattle.stream.specs.Exchange.{
   again,
   fed,
   Exchanged,
+  End,
 }
 use Rattle.stream.specs.Pass.{Prints, Lines, rests, last, more, Passes, Turns, joined, Listing}
 use Rattle.stream.specs.Pass as listing
@@ -43,7 +45,7 @@ use Rattle.stream.proofs.Theorems.{lines-one, listing-list}
 abbrev third : List ℕ
 third = 12 ∷ 0 ∷ 1 ∷ 0 ∷ 3 ∷ 2 ∷ 5 ∷ 0 ∷ 0 ∷ 0 ∷ 0 ∷ 0 ∷ 0 ∷ 0 ∷ []
 
-third-verdict : verdict_on third ≡ Verdict.Refused NoSuchNumber
+third-verdict : verdict_on third ≡ Err NoSuchNumber
 unfolding value_of N
 third-verdict = refl
 
@@ -56,7 +58,7 @@ unfolding value_of N
 third-goes-on = refl
 
 -- the fourth: number 0 of (1,1), accepted
-fourth-verdict : verdict_on (12 ∷ 0 ∷ 1 ∷ 0 ∷ 1 ∷ 1 ∷ 0 ∷ 0 ∷ 0 ∷ 0 ∷ 0 ∷ 0 ∷ 0 ∷ 0 ∷ []) ≡ Verdict.Accepted
+fourth-verdict : verdict_on (12 ∷ 0 ∷ 1 ∷ 0 ∷ 1 ∷ 1 ∷ 0 ∷ 0 ∷ 0 ∷ 0 ∷ 0 ∷ 0 ∷ 0 ∷ 0 ∷ []) ≡ Ok tt
 unfolding value_of N
 fourth-verdict = refl
 
@@ -70,13 +72,13 @@ unfolding value_of
 cut-ends = refl
 
 -- only a 9 ends the list [E4]
-nine-ends : ending (Verdict.Refused CutShort) ≡ true
+nine-ends : ending (Err CutShort) ≡ true
 nine-ends = refl
 
-seven-goes-on : ending (Verdict.Refused NoSuchNumber) ≡ false
+seven-goes-on : ending (Err NoSuchNumber) ≡ false
 seven-goes-on = refl
 
-accepted-goes-on : ending Verdict.Accepted ≡ false
+accepted-goes-on : ending (Ok tt) ≡ false
 accepted-goes-on = refl
 
 abbrev bell : List ℕ → List ℕ
@@ -167,7 +169,7 @@ between_none = refl
 
 -- bytes unread from one index up to another
 abbrev standing : ℕ → ℕ → Stream
-standing at have = record { at = at; have = have; ended = false; going = true; answer = 0 }
+standing at have = record { at = at; have = have; ended = false; end = None }
 
 window-some : window (5 ∷ 6 ∷ 7 ∷ []) (standing 1 2) ≡ 6 ∷ []
 window-some = refl
@@ -209,30 +211,30 @@ records-past-the-window : Ready (5 ∷ 6 ∷ 7 ∷ []) (8 ∷ 8 ∷ []) (standin
 records-past-the-window p = omega (arith, p.whole)
 
 -- a read brings bytes, or nothing more, or fails
-fed-more : Fed (5 ∷ []) (5 ∷ 6 ∷ []) false true 0
+fed-more : Fed (5 ∷ []) (5 ∷ 6 ∷ []) false None
 fed-more = came (6 ∷ []) (omega arith)
 
-fed-end : Fed (5 ∷ []) (5 ∷ []) true true 0
+fed-end : Fed (5 ∷ []) (5 ∷ []) true None
 fed-end = finished
 
-fed-failure : Fed (5 ∷ []) (5 ∷ []) false false 1
+fed-failure : Fed (5 ∷ []) (5 ∷ []) false (Some (Err Failure.Unread))
 fed-failure = unread
 
--- what an answer means: the unread bytes stand in front of what came, and the input has ended only where nothing did
-first-kept : {l : List ℕ} {e going : Bool} {answer : ℕ} → Fed (5 ∷ []) l e going answer → get_or l 0 0 ≡ 5
+-- what a read means: the unread bytes stand in front of what came, and the input has ended only where nothing did
+first-kept : {l : List ℕ} {e : Bool} {end : End} → Fed (5 ∷ []) l e end → get_or l 0 0 ≡ 5
 first-kept (came piece h) = refl
 first-kept finished = refl
 first-kept unread = refl
 
-ended_same : {l : List ℕ} {e going : Bool} {answer : ℕ} → Fed (5 ∷ []) l e going answer → e ≡ true → length l ≡ 1
+ended_same : {l : List ℕ} {e : Bool} {end : End} → Fed (5 ∷ []) l e end → e ≡ true → length l ≡ 1
 ended_same (came piece h) f = absurd (false≢true f)
 ended_same finished f = refl
 ended_same unread f = absurd (false≢true f)
 
-unread-dropped : Fed (5 ∷ []) (6 ∷ []) false true 0 → ⊥
+unread-dropped : Fed (5 ∷ []) (6 ∷ []) false None → ⊥
 unread-dropped p = omega (arith, first-kept p)
 
-ended-too-early : Fed (5 ∷ []) (5 ∷ 6 ∷ []) true true 0 → ⊥
+ended-too-early : Fed (5 ∷ []) (5 ∷ 6 ∷ []) true None → ⊥
 ended-too-early p = omega (arith, ended_same p refl)
 
 refilled : Refilled (4 ∷ 5 ∷ 0 ∷ []) 1 2 (5 ∷ 6 ∷ 0 ∷ []) (standing 0 2)
@@ -242,28 +244,28 @@ refilled-behind-nothing : Refilled (4 ∷ 5 ∷ 0 ∷ []) 1 2 (5 ∷ 6 ∷ 0 ∷
 refilled-behind-nothing p = omega (arith, first-kept p.fed)
 
 -- an exchange passes over what was listed, and ends with 0 only where the list is over
-on-with-the-rest : Onward (4 ∷ 5 ∷ []) false (stopped Front.Record) (5 ∷ []) false true 0
+on-with-the-rest : Onward (4 ∷ 5 ∷ []) false (stopped Front.Record) (5 ∷ []) false None
 on-with-the-rest = again refl
 
-at-the-end : Onward (4 ∷ 5 ∷ []) false (stopped Front.Over) (5 ∷ []) false false 0
+at-the-end : Onward (4 ∷ 5 ∷ []) false (stopped Front.Over) (5 ∷ []) false (Some (Ok tt))
 at-the-end = over refl
 
-not_written : Onward (4 ∷ 5 ∷ []) false (stopped Front.Over) (5 ∷ []) false false 2
+not_written : Onward (4 ∷ 5 ∷ []) false (stopped Front.Over) (5 ∷ []) false (Some (Err Failure.Unwritten))
 not_written = unwritten
 
-over-only-at-the-end : {l : List ℕ} {e going : Bool} {answer : ℕ} {front : Front}
-    → Onward (4 ∷ 5 ∷ []) false (stopped front) l e going answer
-    → going ≡ false → answer ≡ 0 → front ≡ Front.Over
-over-only-at-the-end unwritten g a = absurd (omega (arith, a))
-over-only-at-the-end (over e) g a = e
-over-only-at-the-end (again e) g a = absurd (true≢false g)
-over-only-at-the-end (fed e (came piece h)) g a = absurd (true≢false g)
-over-only-at-the-end (fed e finished) g a = absurd (true≢false g)
-over-only-at-the-end (fed e unread) g a = absurd (omega (arith, a))
+over-only-at-the-end : {l : List ℕ} {e : Bool} {end : End} {front : Front}
+    → Onward (4 ∷ 5 ∷ []) false (stopped front) l e end
+    → end ≡ Some (Ok tt) → front ≡ Front.Over
+over-only-at-the-end unwritten a = let z : ◌≡◌ {A = ℕ} 0 1 = cc in absurd (omega arith)
+over-only-at-the-end (over e) a = e
+over-only-at-the-end (again e) a = let z : ◌≡◌ {A = ℕ} 0 1 = cc in absurd (omega arith)
+over-only-at-the-end (fed e (came piece h)) a = let z : ◌≡◌ {A = ℕ} 0 1 = cc in absurd (omega arith)
+over-only-at-the-end (fed e finished) a = let z : ◌≡◌ {A = ℕ} 0 1 = cc in absurd (omega arith)
+over-only-at-the-end (fed e unread) a = let z : ◌≡◌ {A = ℕ} 0 1 = cc in absurd (omega arith)
 
-over-with-a-record-left : Onward (4 ∷ 5 ∷ []) false (stopped Front.Record) (5 ∷ []) false false 0 → ⊥
+over-with-a-record-left : Onward (4 ∷ 5 ∷ []) false (stopped Front.Record) (5 ∷ []) false (Some (Ok tt)) → ⊥
 over-with-a-record-left p =
-    let said : Front.Record ≡ Front.Over = over-only-at-the-end p refl refl in
+    let said : Front.Record ≡ Front.Over = over-only-at-the-end p refl in
     let z : ◌≡◌ {A = ℕ} 0 1 = cc in omega arith
 
 exchanged : Exchanged (4 ∷ 5 ∷ 0 ∷ []) (standing 0 2) (stopped Front.Record) (4 ∷ 5 ∷ 0 ∷ []) (standing 1 2)
@@ -330,7 +332,7 @@ pass-past-the-window : Passes bell 1 false (0 ∷ 0 ∷ 0 ∷ []) (1 ∷ 2 ∷ [
 pass-past-the-window p = omega (arith, p.within)
 
 -- a turn at the end of an empty input
-turned : Turns bell 1 9 [] begun [] (record { at = 0; have = 0; ended = true; going = true; answer = 0 })
+turned : Turns bell 1 9 [] begun [] (record { at = 0; have = 0; ended = true; end = None })
 unfolding value_of
 turned = record {
   text = [];
@@ -339,17 +341,19 @@ turned = record {
   onward = fed refl finished;
 }
 
--- more is only asked for where a record waits: no turn answers 1 at the end of an input
-answered-one : {src left : List ℕ} {e f going : Bool} {pass : Pass} {answer : ℕ} → Onward src e pass left f going answer
-    → answer ≡ 1 → f ≡ false
-answered-one unwritten a = absurd (omega (arith, a))
-answered-one (over q) a = absurd (omega (arith, a))
-answered-one (again q) a = absurd (omega (arith, a))
-answered-one (fed q (came piece h)) a = absurd (omega (arith, a))
-answered-one (fed q finished) a = absurd (omega (arith, a))
+-- more is only asked for where a record waits: no turn fails to read at the end of an input
+answered-one : {src left : List ℕ} {e f : Bool} {pass : Pass} {end : End} → Onward src e pass left f end
+    → end ≡ Some (Err Failure.Unread) → f ≡ false
+answered-one unwritten a = let z : ◌≡◌ {A = ℕ} 0 1 = cc in absurd (omega arith)
+answered-one (over q) a = let z : ◌≡◌ {A = ℕ} 0 1 = cc in absurd (omega arith)
+answered-one (again q) a = let z : ◌≡◌ {A = ℕ} 0 1 = cc in absurd (omega arith)
+answered-one (fed q (came piece h)) a = let z : ◌≡◌ {A = ℕ} 0 1 = cc in absurd (omega arith)
+answered-one (fed q finished) a = let z : ◌≡◌ {A = ℕ} 0 1 = cc in absurd (omega arith)
 answered-one (fed q unread) a = refl
 
-turned-back : Turns bell 1 9 [] begun [] (record { at = 0; have = 0; ended = true; going = false; answer = 1 }) → ⊥
+turned-back : Turns bell 1 9 [] begun []
+    (record { at = 0; have = 0; ended = true; end = Some (Err Failure.Unread) })
+    → ⊥
 turned-back p = true≢false (answered-one p.onward refl)
 
 joined-two : joined ((1 ∷ 2 ∷ []) ∷ (3 ∷ []) ∷ []) ≡ 1 ∷ 2 ∷ 3 ∷ []
@@ -373,10 +377,10 @@ unfolding joined list_from value_of
 record-lost p = omega (arith, ap length (listing-list bell (λ src rest e. refl) p))
 
 -- the bytes to pass over after a verdict: those of the record, and after a 9 none
-passing-14 : passing third Verdict.Accepted ≡ 14
+passing-14 : passing third (Ok tt) ≡ 14
 unfolding value_of
 passing-14 = refl
 
-passing-0 : passing third (Verdict.Refused CutShort) ≡ 0
+passing-0 : passing third (Err CutShort) ≡ 0
 unfolding value_of
 passing-0 = refl

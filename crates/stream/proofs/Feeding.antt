@@ -12,6 +12,8 @@ use borrow.Author.Tests.{eq-eqb, ne_eqb}
 use lib.Dec.{eqb}
 use lib.ListN.{length, take, drop, length-append, length-drop}
 use lib.Seq.{length-take-le, take_at, take-append-add}
+use Rattle.stream.specs.declared.Failure.{Failure}
+use Rattle.std.proofs.Common.{Some, None, Err}
 use Rattle.stream.specs.Exchange.{between, Room, Fed, came, finished, unread, Refilled}
 
 from_start : (l : List ℕ) (n : ℕ) → between l 0 n ≡ take n l
@@ -30,11 +32,11 @@ module _ (input : List ℕ) (at have : ℕ) (room : Room input at have) (slid : 
   size = length-take-le left slid (omega (arith, room.some))
 
   pub refill-lost : Refilled input at have after
-      (record { at = 0; have = left; ended = false; going = false; answer = 1 })
+      (record { at = 0; have = left; ended = false; end = Some (Err Failure.Unread) })
   refill-lost = record {
     inside = record { unread = omega arith; held = omega (arith, room.some, whole) };
     fed =
-        subst (λ (l : List ℕ). Fed (between input at have) l false false 1)
+        subst (λ (l : List ℕ). Fed (between input at have) l false (Some (Err Failure.Unread)))
         (sym (from_start after left ∙ take_at (take left slid) rest left size ∙ front)) unread;
   }
 
@@ -49,7 +51,7 @@ module _ (input : List ℕ) (at have : ℕ) (room : Room input at have) (slid : 
     )
 
     abbrev Brought : List ℕ → Bool → Type 0
-    Brought l b = Fed (between input at have) l b true 0
+    Brought l b = Fed (between input at have) l b None
 
     rest-size : length (take more rest) ≡ more
     rest-size = length-take-le more rest (omega (arith, few, whole, size, length-append (take left slid) rest))
@@ -62,7 +64,7 @@ module _ (input : List ℕ) (at have : ℕ) (room : Room input at have) (slid : 
         ∙ ap (λ (l : List ℕ). l ++ take more rest) front
 
     pub refill-got : Refilled input at have after
-        (record { at = 0; have = left + more; ended = eqb more 0; going = true; answer = 0 })
+        (record { at = 0; have = left + more; ended = eqb more 0; end = None })
     refill-got = record {
       inside = record { unread = omega arith; held = omega (arith, few, whole) };
       fed = elim (ℕ_discrete more 0) [ yes e ↦ nothing e | no n ↦ some n ];

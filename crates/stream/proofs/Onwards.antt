@@ -3,13 +3,14 @@
 --     has_room         there is room to read into where the pass stopped at a record that waits for more
 --     on-unwritten, on-over, on-again, on-fed     what an exchange leaves, by how it went
 -- Assumes nothing.
-use mathlib.Core.Bool.{Bool, true, false}
 use mathlib.Core.List.{List, [], ◌∷◌}
 use mathlib.Core.Path.{◌≡◌, refl, sym, ◌∙◌, ap, subst}
 use Prim.Native.Nat.{ℕ, zero, suc, ◌+◌, ◌-◌}
 use native.Mathlib.Omega.{arith}
 use lib.ListN.{take, drop}
 use lib.Seq.{drop-drop}
+use Rattle.stream.specs.declared.Failure.{Failure}
+use Rattle.std.proofs.Common.{Some, None, Ok, Err}
 use Rattle.stream.specs.declared.Front.{Front}
 use Rattle.stream.specs.declared.Pass.{Pass}
 use Rattle.stream.specs.declared.Stream.{Stream}
@@ -26,6 +27,7 @@ use Rattle.stream.specs.Exchange.{
   again,
   fed,
   Exchanged,
+  End,
 }
 
 pub drop-take : (k n : ℕ) (l : List ℕ) → drop k (take (k + n) l) ≡ take n (drop k l)
@@ -53,30 +55,29 @@ module _ (input text : List ℕ) (stream : Stream) (pass : Pass) (ready : Ready 
       ∙ ap (take (stream.have - at)) (drop-drop pass.consumed stream.at input)
 
   -- the unread bytes stay where they are
-  kept : {going : Bool} {answer : ℕ}
-      → Onward (window input stream) stream.ended pass (drop pass.consumed (window input stream)) stream.ended
-      going answer
+  kept : {end : End}
+      → Onward (window input stream) stream.ended pass (drop pass.consumed (window input stream)) stream.ended end
       → Exchanged input stream pass input
-      (record { at = at; have = stream.have; ended = stream.ended; going = going; answer = answer })
-  kept {going} {answer} onward = record {
+      (record { at = at; have = stream.have; ended = stream.ended; end = end })
+  kept {end} onward = record {
     inside = record { unread = ready.whole; held = ready.inside.held };
     onward =
-        subst (λ (l : List ℕ). Onward (window input stream) stream.ended pass l stream.ended going answer)
+        subst (λ (l : List ℕ). Onward (window input stream) stream.ended pass l stream.ended end)
         passed_over onward;
   }
 
   pub on-unwritten : Exchanged input stream pass input
-      (record { at = at; have = stream.have; ended = stream.ended; going = false; answer = 2 })
+      (record { at = at; have = stream.have; ended = stream.ended; end = Some (Err Failure.Unwritten) })
   on-unwritten = kept unwritten
 
   pub on-over : pass.front ≡ Front.Over
       → Exchanged input stream pass input
-      (record { at = at; have = stream.have; ended = stream.ended; going = false; answer = 0 })
+      (record { at = at; have = stream.have; ended = stream.ended; end = Some (Ok tt) })
   on-over e = kept (over e)
 
   pub on-again : pass.front ≡ Front.Record
       → Exchanged input stream pass input
-      (record { at = at; have = stream.have; ended = stream.ended; going = true; answer = 0 })
+      (record { at = at; have = stream.have; ended = stream.ended; end = None })
   on-again e = kept (again e)
 
   pub on-fed : pass.front ≡ Front.Short → {after : List ℕ} {next : Stream}
@@ -85,7 +86,7 @@ module _ (input text : List ℕ) (stream : Stream) (pass : Pass) (ready : Ready 
     inside = filled.inside;
     onward =
         fed e
-        (subst (λ (l : List ℕ). Fed l (window after next) next.ended next.going next.answer) (sym passed_over)
+        (subst (λ (l : List ℕ). Fed l (window after next) next.ended next.end) (sym passed_over)
         filled.fed);
   }
 

@@ -1,7 +1,6 @@
 -- Where a pass stops, and what an exchange may then count on.
 --     lines-open       a pass stops at a record that waits for more only before the end of the input
 --     lines-few        and then few bytes are left
---     onward-answer    an exchange answers 0, 1 or 2
 --     ready            what an exchange is owed, from what the pass did
 -- Assumes nothing.
 use mathlib.Core.Bool.{Bool, false}
@@ -15,19 +14,7 @@ use Rattle.record.specs.Record.{longest}
 use Rattle.stream.specs.declared.Front.{Front}
 use Rattle.stream.specs.declared.Pass.{Pass}
 use Rattle.stream.specs.declared.Stream.{Stream}
-use Rattle.stream.specs.Exchange.{
-  window,
-  Inside,
-  Ready,
-  came,
-  finished,
-  unread,
-  Onward,
-  unwritten,
-  over,
-  again,
-  fed,
-}
+use Rattle.stream.specs.Exchange.{window, Inside, Ready}
 use Rattle.stream.specs.Pass.{Lines, rests, last, more, Passes}
 use Rattle.stream.proofs.Fronts.{unsettled-few, is_open}
 
@@ -58,12 +45,3 @@ module _ {line : List ℕ → List ℕ} {widest : ℕ} where
         some = λ e.
             omega (arith, large, lines-few p.lines e, length-drop pass.consumed (window input stream), size);
       }
-
-pub onward-answer : {src left : List ℕ} {e f going : Bool} {pass : Pass} {answer : ℕ}
-    → Onward src e pass left f going answer → answer ≤ 2
-onward-answer unwritten = omega arith
-onward-answer (over e) = omega arith
-onward-answer (again e) = omega arith
-onward-answer (fed e (came piece some)) = omega arith
-onward-answer (fed e finished) = omega arith
-onward-answer (fed e unread) = omega arith

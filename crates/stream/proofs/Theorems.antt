@@ -17,12 +17,13 @@ use Prim.Native.Nat.{ℕ, ◌<◌}
 use native.Mathlib.Omega.{arith}
 use lib.ListN.{length, drop, length-append, length-drop}
 use lib.Seq.{drop-append-le}
+use Rattle.std.proofs.Common.{Some, None, Ok}
 use Rattle.stream.specs.declared.Front.{Front}
 use Rattle.stream.specs.declared.Pass.{Pass}
 use Rattle.stream.specs.declared.Printed.{Printed}
 use Rattle.stream.specs.declared.Stream.{Stream}
 use Rattle.stream.specs.Stream.{passed, ending, ends, front_of, list_of, Own}
-use Rattle.stream.specs.Exchange.{Onward}
+use Rattle.stream.specs.Exchange.{Onward, End}
 use Rattle.stream.specs.Exchange as exchange
 use Rattle.stream.specs.Pass.{
   Prints,
@@ -172,37 +173,37 @@ pub record Longer (line : List ℕ → List ℕ) (widest room : ℕ) (ended : Bo
   pub listing : Listing line widest room ended src (piece ++ input) texts
 
 module _ {line : List ℕ → List ℕ} {widest room : ℕ} {src left : List ℕ} {at next : Stream} where
-  pub turn-over : (t : Turns line widest room src at left next) → next.going ≡ false → next.answer ≡ 0
+  pub turn-over : (t : Turns line widest room src at left next) → next.end ≡ Some (Ok tt)
       → (input : List ℕ)
       → Listing line widest room at.ended src input (t.text ∷ [])
-  turn-over t g a input = by t.onward t.lines g a
+  turn-over t e input = by t.onward t.lines e
     where
-      by : {ended : Bool} {pass : Pass} {text left : List ℕ} {e going : Bool} {answer : ℕ}
-          → Onward src ended pass left e going answer
+      by : {ended : Bool} {pass : Pass} {text left : List ℕ} {e : Bool} {end : End}
+          → Onward src ended pass left e end
           → Lines line widest ended room src text (drop pass.consumed src) pass.front
-          → going ≡ false → answer ≡ 0 → Listing line widest room ended src input (text ∷ [])
-      by exchange.unwritten q g a = absurd (omega (arith, a))
-      by {ended} {pass} {text} (exchange.over f) q g a =
+          → end ≡ Some (Ok tt) → Listing line widest room ended src input (text ∷ [])
+      by exchange.unwritten q g = let z : ◌≡◌ {A = ℕ} 0 1 = cc in absurd (omega arith)
+      by {ended} {pass} {text} (exchange.over f) q g =
           done (subst (Lines line widest ended room src text (drop pass.consumed src)) f q)
-      by (exchange.again f) q g a = absurd (true≢false g)
-      by (exchange.fed f (exchange.came piece some)) q g a = absurd (true≢false g)
-      by (exchange.fed f exchange.finished) q g a = absurd (true≢false g)
-      by (exchange.fed f exchange.unread) q g a = absurd (omega (arith, a))
+      by (exchange.again f) q g = let z : ◌≡◌ {A = ℕ} 0 1 = cc in absurd (omega arith)
+      by (exchange.fed f (exchange.came piece some)) q g = let z : ◌≡◌ {A = ℕ} 0 1 = cc in absurd (omega arith)
+      by (exchange.fed f exchange.finished) q g = let z : ◌≡◌ {A = ℕ} 0 1 = cc in absurd (omega arith)
+      by (exchange.fed f exchange.unread) q g = let z : ◌≡◌ {A = ℕ} 0 1 = cc in absurd (omega arith)
 
-  pub turn_on : (t : Turns line widest room src at left next) → next.going ≡ true
+  pub turn_on : (t : Turns line widest room src at left next) → next.end ≡ None
       → {input : List ℕ} {texts : List (List ℕ)}
       → Listing line widest room next.ended left input texts → (next.ended ≡ true → input ≡ [])
       → Longer line widest room at.ended src input (t.text ∷ texts)
   turn_on t g r h = by t.onward t.lines g r h
     where
-      by : {ended : Bool} {pass : Pass} {text left : List ℕ} {e going : Bool} {answer : ℕ}
-          → Onward src ended pass left e going answer
-          → Lines line widest ended room src text (drop pass.consumed src) pass.front → going ≡ true
+      by : {ended : Bool} {pass : Pass} {text left : List ℕ} {e : Bool} {end : End}
+          → Onward src ended pass left e end
+          → Lines line widest ended room src text (drop pass.consumed src) pass.front → end ≡ None
           → {input : List ℕ} {texts : List (List ℕ)} → Listing line widest room e left input texts
           → (e ≡ true → input ≡ [])
           → Longer line widest room ended src input (text ∷ texts)
-      by exchange.unwritten q g r h = absurd (false≢true g)
-      by (exchange.over f) q g r h = absurd (false≢true g)
+      by exchange.unwritten q g r h = let z : ◌≡◌ {A = ℕ} 0 1 = cc in absurd (omega arith)
+      by (exchange.over f) q g r h = let z : ◌≡◌ {A = ℕ} 0 1 = cc in absurd (omega arith)
       by {ended} {pass} {text} (exchange.again f) q g r h =
           record {
             piece = [];
@@ -233,4 +234,4 @@ module _ {line : List ℕ → List ℕ} {widest room : ℕ} {src left : List ℕ
                 subst (λ (l : List ℕ). Listing line widest room ended src l (text ∷ texts)) (sym none)
                 (subst (λ (b : Bool). Listing line widest room b src [] (text ∷ texts)) (sym shut) whole);
           }
-      by (exchange.fed f exchange.unread) q g r h = absurd (false≢true g)
+      by (exchange.fed f exchange.unread) q g r h = let z : ◌≡◌ {A = ℕ} 0 1 = cc in absurd (omega arith)

@@ -57,7 +57,7 @@ pub record Turns (line : List ℕ → List ℕ) (widest room : ℕ) (src : List 
   pub text : List ℕ
   pub pass : Pass
   pub lines : Lines line widest at.ended room src text (drop pass.consumed src) pass.front
-  pub onward : Onward src at.ended pass left next.ended next.going next.answer
+  pub onward : Onward src at.ended pass left next.ended next.end
 
 unfoldable pub joined : List (List ℕ) → List ℕ
 joined [] = []

@@ -13,8 +13,9 @@
 --     front_number     a number for each, as a C host is told it [E18]
 --     Own              the line of a record depends on no byte after it
 use Rattle.std.specs.Prelude.{Bool, true, false, cond, ◌&&◌, ◌||◌, List, [], ◌∷◌, ◌++◌, ◌≡◌, ℕ, zero, suc, ◌+◌, eqb}
+use Rattle.std.specs.Prelude.{Ok, Err}
 use Rattle.std.specs.Prelude.{leb, ltb, length, drop}
-use Rattle.refusal.specs.declared.Verdict.{Verdict}
+use Rattle.refusal.specs.Answer.{Verdict}
 use Rattle.refusal.specs.Refusal.{refusal_number}
 use Rattle.refusal.specs.Rows.{judge}
 use Rattle.triangle.specs.Count.{most_beats}
@@ -25,15 +26,15 @@ abbrev pub verdict_on : List ℕ → Verdict
 verdict_on src = judge (read_rows most_beats src)
 
 abbrev pub passing : List ℕ → Verdict → ℕ
-passing src Verdict.Accepted = 2 + long src
-passing src (Verdict.Refused why) = eaten why (long src)
+passing src (Ok unit) = 2 + long src
+passing src (Err why) = eaten why (long src)
 
 abbrev pub passed : List ℕ → ℕ
 passed src = passing src (verdict_on src)
 
 abbrev pub ending : Verdict → Bool
-ending Verdict.Accepted = false
-ending (Verdict.Refused why) = eqb (refusal_number why) 9
+ending (Ok unit) = false
+ending (Err why) = eqb (refusal_number why) 9
 
 abbrev pub ends : List ℕ → Bool
 ends src = ending (verdict_on src)

@@ -20,7 +20,7 @@ pub use moving::exchange;
 
 // What stands at the front of the unread bytes: a record that can be listed, the start of one that waits for more
 // input, or nothing more.
-#[derive(Clone, Copy)]
+#[derive(Clone, Copy, Debug, PartialEq, Eq)]
 pub enum Front {
     Record,
     Short,
@@ -28,7 +28,7 @@ pub enum Front {
 }
 
 impl Front {
-    // A number for each, for a C host. [E18]
+    // A number for each, for a C host: a method and no `From`, since the documents name `Front::number`. [E18]
     pub fn number(self) -> u64
         ensures { result ≡ means.front_number self }
     {
@@ -58,15 +58,22 @@ pub struct Pass {
     pub front: Front,
 }
 
-// Where a program stands: unread bytes from `at` up to `have`, whether the input has ended after them, whether
-// to go on, and what to answer at the end.
+// How listing fails.
+#[derive(Clone, Copy, Debug, PartialEq, Eq)]
+pub enum Failure {
+    Unread,
+    Unwritten,
+}
+
+// Where a program stands: unread bytes from `at` up to `have` of its buffer, whether the input has ended after them,
+// and the end of the list, where it has come. Two indices and no vector of bytes: a program has no heap (fixed memory),
+// and the definition `window` is in these words.
 #[derive(Clone, Copy)]
 pub struct Stream {
     pub at: usize,
     pub have: usize,
     pub ended: bool,
-    pub going: bool,
-    pub answer: u64,
+    pub end: Option<Result<(), Failure>>,
 }
 
 // Whether the record that a slice starts with is judged the same whatever follows.
@@ -107,8 +114,7 @@ pub fn start() -> Stream
         at: 0,
         have: 0,
         ended: false,
-        going: true,
-        answer: 0,
+        end: None,
     }
 }
 

@@ -5,16 +5,9 @@ ghost use Rattle.std.specs.Prelude.{◌≡◌, ◌+◌, ◌≤◌, ◌<◌, leng
 ghost use Rattle.std.specs.Io.{ReadsAtMost};
 ghost use Rattle.stream.specs.Exchange.{Room, Ready, Refilled, Exchanged};
 
-use crate::{Front, Pass, Stream};
+use crate::{Failure, Front, Pass, Stream};
 use std::io;
 use std::io::{ErrorKind, Read, Write};
-
-// The answers: all was listed, reading failed, writing failed.
-const LISTED: u64 = 0;
-
-const UNREAD: u64 = 1;
-
-const UNWRITTEN: u64 = 2;
 
 // One read, made again where it is interrupted. Nothing says that this ends, so the tries are counted, up to a number
 // that no run uses up.
@@ -45,11 +38,7 @@ fn slide(input: &mut [u8], from: usize, count: usize)
     requires { from + count ≤ length input.old }
     ensures { take count input.new ≡ take count (drop from input.old) }
 {
-    let mut k = 0;
-    while k < count {
-        input[k] = input[from + k];
-        k += 1;
-    }
+    input.copy_within(from..from + count, 0);
 }
 
 // Moves the unread bytes to the front and reads once after them.
@@ -64,16 +53,14 @@ fn refill<R: Read>(from: &mut R, input: &mut [u8], at: usize, have: usize) -> St
             at: 0,
             have: left,
             ended: false,
-            going: false,
-            answer: UNREAD,
+            end: Some(Err(Failure::Unread)),
         };
     };
     Stream {
         at: 0,
         have: left + more,
         ended: more == 0,
-        going: true,
-        answer: LISTED,
+        end: None,
     }
 }
 
@@ -100,26 +87,22 @@ pub fn exchange<R: Read, W: Write>(
             at,
             have,
             ended,
-            going: false,
-            answer: UNWRITTEN,
+            end: Some(Err(Failure::Unwritten)),
         };
     }
-    let front = pass.front;
-    match front {
+    match pass.front {
         Front::Short => refill(from, input, at, have),
         Front::Record => Stream {
             at,
             have,
             ended,
-            going: true,
-            answer: LISTED,
+            end: None,
         },
         Front::Over => Stream {
             at,
             have,
             ended,
-            going: false,
-            answer: LISTED,
+            end: Some(Ok(())),
         },
     }
 }

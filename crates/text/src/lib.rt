@@ -1,5 +1,9 @@
 // The text that any line is made of: a byte, a number and an integer in decimal, each written where it is to stand,
-// with no copy. The contracts cite specs/Decimal and specs/Written; proofs/Theorems says what a decimal is. [P1]
+// with no copy. The contracts cite specs/Decimal and specs/Written; proofs/Theorems says what a decimal is. The lent
+// bytes and the index stay two parameters, here and in the crates of lines: a struct of both was tried and proves, but
+// each of twelve contracts then says besides that the struct still holds the bytes that were lent, no plainer. Nor are
+// numbers written by `write!`: it may fail, and as every caller has proved that there is room, each call would have an
+// error that never comes. [P1]
 #![tactic(auto)]
 
 ghost use Rattle.std.specs.Prelude.{[], ◌∷◌, ◌++◌, ◌≡◌, ◌+◌, ◌≤◌, ◌<◌, nat_abs, length};
@@ -17,6 +21,8 @@ pub fn put(byte: u8, out: &mut [u8], at: usize) -> usize
 }
 
 // How many digits n has. 10^19 is the largest power of ten below 2^64, so the count ends with 20.
+// The logarithm of the library, `n.max(1).ilog10()`, and a `for` from the last place back in `numeral` were tried and
+// prove; `gv_outline` then takes a fifth more instructions, and misses its goal at (8,8) and above (bench/RESULTS.md).
 fn width(n: u64) -> usize
     ensures { result ≡ length (Decimal·decimal n) }
 {
@@ -68,14 +74,11 @@ pub fn field(n: u64, out: &mut [u8], at: usize) -> usize
     put(b' ', out, end)
 }
 
-// How far n is from 0. Below 0, -1 - n fits its type, which 0 - n does not for the least one. [Q6]
+// How far n is from 0, which fits its type for the least one too. [Q6]
 pub fn magnitude(n: i32) -> u64
     ensures { result ≡ nat_abs n }
 {
-    if n < 0 {
-        return (-1 - n) as u64 + 1;
-    }
-    n as u64
+    u64::from(n.unsigned_abs())
 }
 
 // Writes n in decimal, after a - where it is below 0, and answers the index after it. [Q6]

@@ -6,10 +6,10 @@ use mathlib.Core.Path.{◌≡◌, refl, ap}
 use Prim.Native.Nat.{ℕ}
 use native.Mathlib.Omega.{arith}
 use lib.ListN.{length, get_or}
+use Rattle.std.proofs.Common.{Ok, Err}
 use Rattle.bounded.specs.Bounded.{first_from}
 use Rattle.refusal.specs.declared.Refusal.{Refusal}
 use Rattle.refusal.specs.declared.Refusal.TheVariants.{TooManyTasks, WrongLength, EmptyHand}
-use Rattle.refusal.specs.declared.Verdict.{Verdict}
 use Rattle.refusal.specs.Answer.{refusal}
 use Rattle.refusal.specs.Rows.{judge}
 use Rattle.refusal.proofs.Theorems.{refused-number}
@@ -88,41 +88,41 @@ beats-long : fits 2 5 2 2 2 ≡ false
 beats-long = refl
 
 -- the order of the sizes: 1 before 3
-sizes-taken : judge (size_rows 2 4 2 2 2) ≡ Verdict.Accepted
+sizes-taken : judge (size_rows 2 4 2 2 2) ≡ Ok tt
 sizes-taken = refl
 
-sizes-200 : judge (size_rows 200 0 0 0 0) ≡ Verdict.Refused TooManyTasks
+sizes-200 : judge (size_rows 200 0 0 0 0) ≡ Err TooManyTasks
 sizes-200 = refl
 
-sizes-short : judge (size_rows 2 4 2 1 2) ≡ Verdict.Refused WrongLength
+sizes-short : judge (size_rows 2 4 2 1 2) ≡ Err WrongLength
 sizes-short = refl
 
-lent-taken : judge (lent_rows 1 (1 ∷ 0 ∷ []) (7 ∷ []) (7 ∷ []) (7 ∷ [])) ≡ Verdict.Accepted
+lent-taken : judge (lent_rows 1 (1 ∷ 0 ∷ []) (7 ∷ []) (7 ∷ []) (7 ∷ [])) ≡ Ok tt
 lent-taken = refl
 
-lent-short : judge (lent_rows 1 (1 ∷ 0 ∷ []) (7 ∷ []) [] (7 ∷ [])) ≡ Verdict.Refused WrongLength
+lent-short : judge (lent_rows 1 (1 ∷ 0 ∷ []) (7 ∷ []) [] (7 ∷ [])) ≡ Err WrongLength
 lent-short = refl
 
 -- the way there: 10 fills its tables and is not refused; 01 is refused, and leaves what was lent
-treed-10 : Treed 1 (1 ∷ 0 ∷ []) (7 ∷ []) (7 ∷ []) (7 ∷ []) Verdict.Accepted (0 ∷ []) (0 ∷ []) (0 ∷ [])
+treed-10 : Treed 1 (1 ∷ 0 ∷ []) (7 ∷ []) (7 ∷ []) (7 ∷ []) (Ok tt) (0 ∷ []) (0 ∷ []) (0 ∷ [])
 unfolding first_from ones zeros
 treed-10 = filled refl one
 
-treed-01 : Treed 1 (0 ∷ 1 ∷ []) (7 ∷ []) (7 ∷ []) (7 ∷ []) (Verdict.Refused (EmptyHand 0)) (7 ∷ []) (7 ∷ []) (7 ∷ [])
+treed-01 : Treed 1 (0 ∷ 1 ∷ []) (7 ∷ []) (7 ∷ []) (7 ∷ []) (Err (EmptyHand 0)) (7 ∷ []) (7 ∷ []) (7 ∷ [])
 unfolding first_from ones zeros
 treed-01 = kept refl
 
-treed-other : Treed 1 (1 ∷ 0 ∷ []) (7 ∷ []) (7 ∷ []) (7 ∷ []) Verdict.Accepted (0 ∷ []) (0 ∷ []) (1 ∷ []) → ⊥
+treed-other : Treed 1 (1 ∷ 0 ∷ []) (7 ∷ []) (7 ∷ []) (7 ∷ []) (Ok tt) (0 ∷ []) (0 ∷ []) (1 ∷ []) → ⊥
 treed-other q = omega (arith, ap (λ (l : List ℕ). get_or l 0 0) (treed-one q treed-10).3)
 
 treed-refused : (why : Refusal) (l r p : List ℕ)
-    → Treed 1 (1 ∷ 0 ∷ []) (7 ∷ []) (7 ∷ []) (7 ∷ []) (Verdict.Refused why) l r p → ⊥
+    → Treed 1 (1 ∷ 0 ∷ []) (7 ∷ []) (7 ∷ []) (7 ∷ []) (Err why) l r p → ⊥
 treed-refused why l r p q = omega (arith, ap refusal (treed-one q treed-10).0, (refused-number why).0)
 
-treed-taken : (l r p : List ℕ) → Treed 1 (0 ∷ 1 ∷ []) (7 ∷ []) (7 ∷ []) (7 ∷ []) Verdict.Accepted l r p → ⊥
+treed-taken : (l r p : List ℕ) → Treed 1 (0 ∷ 1 ∷ []) (7 ∷ []) (7 ∷ []) (7 ∷ []) (Ok tt) l r p → ⊥
 treed-taken l r p q = omega (arith, ap refusal (treed-one q treed-01).0)
 
-treed-changed : Treed 1 (0 ∷ 1 ∷ []) (7 ∷ []) (7 ∷ []) (7 ∷ []) (Verdict.Refused (EmptyHand 0)) (0 ∷ []) (7 ∷ [])
+treed-changed : Treed 1 (0 ∷ 1 ∷ []) (7 ∷ []) (7 ∷ []) (7 ∷ []) (Err (EmptyHand 0)) (0 ∷ []) (7 ∷ [])
     (7 ∷ [])
     → ⊥
 treed-changed q = omega (arith, ap (λ (l : List ℕ). get_or l 0 0) (treed-one q treed-01).1)
@@ -190,11 +190,11 @@ unfolding parents
 parents-none = refl
 
 -- the refusals of a schedule and of the tables lent for it, by the last row and with none
-rows-10 : judge (tree_rows 1 (1 ∷ 0 ∷ []) (7 ∷ []) (7 ∷ []) (7 ∷ [])) ≡ Verdict.Accepted
+rows-10 : judge (tree_rows 1 (1 ∷ 0 ∷ []) (7 ∷ []) (7 ∷ []) (7 ∷ [])) ≡ Ok tt
 unfolding first_from ones zeros
 rows-10 = refl
 
-rows-01 : judge (tree_rows 1 (0 ∷ 1 ∷ []) (7 ∷ []) (7 ∷ []) (7 ∷ [])) ≡ Verdict.Refused (EmptyHand 0)
+rows-01 : judge (tree_rows 1 (0 ∷ 1 ∷ []) (7 ∷ []) (7 ∷ []) (7 ∷ [])) ≡ Err (EmptyHand 0)
 unfolding first_from ones zeros
 rows-01 = refl
 

@@ -1,7 +1,5 @@
 -- The verdicts by size, and those of a schedule and the tables lent for it, row by row, the manual, "Refusal
 -- numbers" (Order: trees).
---     fits-beats, fits-left, fits-right, fits-parent     whether the lengths are those of n
---                                                        nodes, tested in their order
 --     too_many, wrong-sizes, right-sizes     the verdict by size: 1, then 3
 --     sizes-right, fitting-sizes    what accepted sizes say, and that such sizes are accepted
 --     tree-unfit, tree-checked      the verdict on a schedule and its tables: that by size, and then the check's
@@ -13,12 +11,12 @@ use mathlib.Core.List.{List, [], ◌∷◌}
 use mathlib.Core.Path.{◌≡◌, refl, ◌∙◌, ap, sym}
 use Prim.Native.Nat.{ℕ, ◌+◌, ◌≤◌, ◌<◌}
 use native.Mathlib.Omega.{arith}
-use borrow.Author.Tests.{lt-ltb, le-ltb, eq-eqb, ne_eqb, eqb-true, ltb-false, not-false}
+use borrow.Author.Tests.{lt-ltb, le-ltb, eq-eqb, eqb-true, ltb-false, not-false}
 use lib.Dec.{eqb}
 use lib.ListN.{length}
+use Rattle.std.proofs.Common.{Ok, Err}
 use Rattle.refusal.specs.declared.Refusal.{Refusal}
 use Rattle.refusal.specs.declared.Refusal.TheVariants.{TooManyTasks, WrongLength}
-use Rattle.refusal.specs.declared.Verdict.{Verdict}
 use Rattle.refusal.specs.Rows.{◌⇒◌, judge}
 use Rattle.refusal.proofs.Rows.{judge-refused, judge-accepted}
 use Rattle.refusal.proofs.Theorems.{accepted-none}
@@ -31,39 +29,25 @@ use Rattle.schedule.proofs.Theorems.{accepted-schedule}
 use Rattle.tree.specs.Table.{fits, size_rows, lent_rows, tree_rows}
 
 module _ (n beats left right parent : ℕ) where
-  pub fits-beats : ((beats ≡ n + n) → ⊥) → false ≡ fits n beats left right parent
-  fits-beats h = simp (ne_eqb beats (n + n) h)
-
-  module _ (b : beats ≡ n + n) where
-    pub fits-left : ((left ≡ n) → ⊥) → false ≡ fits n beats left right parent
-    fits-left h = simp (eq-eqb beats (n + n) b, ne_eqb left n h)
-
-    module _ (l : left ≡ n) where
-      pub fits-right : ((right ≡ n) → ⊥) → false ≡ fits n beats left right parent
-      fits-right h = simp (eq-eqb beats (n + n) b, eq-eqb left n l, ne_eqb right n h)
-
-      pub fits-parent : right ≡ n → eqb parent n ≡ fits n beats left right parent
-      fits-parent r = simp (eq-eqb beats (n + n) b, eq-eqb left n l, eq-eqb right n r)
-
-  pub too_many : largest < n → judge (size_rows n beats left right parent) ≡ Verdict.Refused TooManyTasks
+  pub too_many : largest < n → judge (size_rows n beats left right parent) ≡ Err TooManyTasks
   too_many h = simp (lt-ltb largest n h)
 
   module _ (h : n ≤ largest) where
     pub wrong-sizes : fits n beats left right parent ≡ false
-        → judge (size_rows n beats left right parent) ≡ Verdict.Refused WrongLength
+        → judge (size_rows n beats left right parent) ≡ Err WrongLength
     wrong-sizes f =
         ap (λ (b : Bool). judge ((b ⇒ TooManyTasks) ∷ (not (fits n beats left right parent) ⇒ WrongLength) ∷ []))
         (le-ltb largest n h)
         ∙ ap (λ (b : Bool). judge ((not b ⇒ WrongLength) ∷ [])) f
 
     pub right-sizes : fits n beats left right parent ≡ true
-        → judge (size_rows n beats left right parent) ≡ Verdict.Accepted
+        → judge (size_rows n beats left right parent) ≡ Ok tt
     right-sizes f =
         ap (λ (b : Bool). judge ((b ⇒ TooManyTasks) ∷ (not (fits n beats left right parent) ⇒ WrongLength) ∷ []))
         (le-ltb largest n h)
         ∙ ap (λ (b : Bool). judge ((not b ⇒ WrongLength) ∷ [])) f
 
-  pub sizes-right : judge (size_rows n beats left right parent) ≡ Verdict.Accepted
+  pub sizes-right : judge (size_rows n beats left right parent) ≡ Ok tt
       → (n ≤ largest) × (beats ≡ n + n) × (left ≡ n) × (right ≡ n) × (parent ≡ n)
   sizes-right e =
       let few = accepted-none (size_rows n beats left right parent) e _ (Memᴰ.head refl) in
@@ -81,15 +65,17 @@ module _ (n beats left right parent : ℕ) where
       )
 
   pub fitting-sizes : (n ≤ largest) × (beats ≡ n + n) × (left ≡ n) × (right ≡ n) × (parent ≡ n)
-      → judge (size_rows n beats left right parent) ≡ Verdict.Accepted
-  fitting-sizes q = right-sizes q.0 (sym (fits-parent q.1 q.2 q.3) ∙ eq-eqb parent n q.4)
+      → judge (size_rows n beats left right parent) ≡ Ok tt
+  fitting-sizes q =
+      right-sizes q.0
+      (simp (eq-eqb beats (n + n) q.1, eq-eqb left n q.2, eq-eqb right n q.3, eq-eqb parent n q.4))
 
 module _ (n : ℕ) (b l r p : List ℕ) where
-  pub tree-unfit : {why : Refusal} → judge (lent_rows n b l r p) ≡ Verdict.Refused why
-      → judge (tree_rows n b l r p) ≡ Verdict.Refused why
+  pub tree-unfit : {why : Refusal} → judge (lent_rows n b l r p) ≡ Err why
+      → judge (tree_rows n b l r p) ≡ Err why
   tree-unfit {why} e = judge-refused (lent_rows n b l r p) (play_rows n b) why e
 
-  pub tree-checked : judge (lent_rows n b l r p) ≡ Verdict.Accepted → judge (tree_rows n b l r p) ≡ checked n n b
+  pub tree-checked : judge (lent_rows n b l r p) ≡ Ok tt → judge (tree_rows n b l r p) ≡ checked n n b
   tree-checked e =
       let q = sizes-right n (length b) (length l) (length r) (length p) e in
       let few = allowed-counts n n (q.0, omega arith) in
@@ -99,7 +85,7 @@ module _ (n : ℕ) (b l r p : List ℕ) where
       ∙ ap (λ (x : Bool). judge ((not x ⇒ WrongLength) ∷ play_rows n b)) long)
 
   -- a schedule and its tables that are taken: the tables are n long and the schedule is closed
-  pub taken-closed : judge (lent_rows n b l r p) ≡ Verdict.Accepted → checked n n b ≡ Verdict.Accepted
+  pub taken-closed : judge (lent_rows n b l r p) ≡ Ok tt → checked n n b ≡ Ok tt
       → (length l ≤ largest) × (length r ≡ length l) × (length p ≡ length l) × Schedule (length l) (length l) b
   taken-closed e f =
       let q = sizes-right n (length b) (length l) (length r) (length p) e in (

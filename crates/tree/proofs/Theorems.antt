@@ -12,7 +12,8 @@ use mathlib.Core.Path.{◌≡◌, refl, sym, ◌∙◌, ap, subst}
 use Prim.Native.Nat.{ℕ, ◌+◌, ◌≤◌}
 use native.Mathlib.Omega.{arith}
 use lib.ListN.{length}
-use Rattle.refusal.specs.declared.Verdict.{Verdict}
+use Rattle.std.proofs.Common.{Ok}
+use Rattle.refusal.specs.Answer.{Verdict}
 use Rattle.refusal.specs.Rows.{judge}
 use Rattle.refusal.proofs.Rows.{judge-front, both}
 use Rattle.triangle.specs.Count.{largest}
@@ -88,14 +89,14 @@ module _ (n : ℕ) (b l r p : List ℕ) where
   abbrev pub Sized : Type 0
   Sized = (n ≤ largest) × (length b ≡ n + n) × (length l ≡ n) × (length r ≡ n) × (length p ≡ n)
 
-  pub tree-accepts : judge (tree_rows n b l r p) ≡ Verdict.Accepted → Sized × Schedule n n b
+  pub tree-accepts : judge (tree_rows n b l r p) ≡ Ok tt → Sized × Schedule n n b
   tree-accepts e =
       let fit = judge-front (lent_rows n b l r p) (play_rows n b) e in (
         sizes-right n (length b) (length l) (length r) (length p) fit,
         (accepted-schedule n n b (sym (tree-checked n b l r p fit) ∙ e)).1,
       )
 
-  pub accepts-tree : Sized → Schedule n n b → judge (tree_rows n b l r p) ≡ Verdict.Accepted
+  pub accepts-tree : Sized → Schedule n n b → judge (tree_rows n b l r p) ≡ Ok tt
   accepts-tree s q =
       tree-checked n b l r p (fitting-sizes n (length b) (length l) (length r) (length p) s)
       ∙ schedule-accepted n n b (s.0, omega arith) q

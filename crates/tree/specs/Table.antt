@@ -7,10 +7,10 @@
 --     tree_rows    the refusals of a schedule and of the tables lent for it, in their order: 1, 3, then 4, 5, 6 [R17]
 --     Treed        what the way from a schedule to its tables answers and leaves: the tables of its tree, or, refused,
 --                  what was there [T4]
-use Rattle.std.specs.Prelude.{Bool, not, ◌&&◌, List, [], ◌∷◌, ◌++◌, ◌≡◌, ℕ, ◌+◌, eqb, ltb, length}
+use Rattle.std.specs.Prelude.{Bool, not, ◌&&◌, List, [], ◌∷◌, ◌++◌, ◌≡◌, ℕ, ◌+◌, eqb, ltb, length, Ok, Err}
 use Rattle.refusal.specs.declared.Refusal.{Refusal}
 use Rattle.refusal.specs.declared.Refusal.TheVariants.{TooManyTasks, WrongLength}
-use Rattle.refusal.specs.declared.Verdict.{Verdict}
+use Rattle.refusal.specs.Answer.{Verdict}
 use Rattle.refusal.specs.Rows.{Row, ◌⇒◌, judge}
 use Rattle.triangle.specs.Count.{largest}
 use Rattle.schedule.specs.Check.{play_rows}
@@ -39,7 +39,7 @@ abbrev pub tree_rows : ℕ → List ℕ → List ℕ → List ℕ → List ℕ �
 tree_rows n b l r p = lent_rows n b l r p ++ play_rows n b
 
 pub data Treed (n : ℕ) (b l r p : List ℕ) : Verdict → List ℕ → List ℕ → List ℕ → Type 0 where
-  filled : {l' r' p' : List ℕ} → judge (tree_rows n b l r p) ≡ Verdict.Accepted → Has n b l' r' p'
-      → Treed n b l r p Verdict.Accepted l' r' p'
-  kept : {why : Refusal} → judge (tree_rows n b l r p) ≡ Verdict.Refused why
-      → Treed n b l r p (Verdict.Refused why) l r p
+  filled : {l' r' p' : List ℕ} → judge (tree_rows n b l r p) ≡ Ok tt → Has n b l' r' p'
+      → Treed n b l r p (Ok tt) l' r' p'
+  kept : {why : Refusal} → judge (tree_rows n b l r p) ≡ Err why
+      → Treed n b l r p (Err why) l r p

@@ -9,7 +9,8 @@ ghost use Rattle.schedule.specs.Schedule.{Schedule};
 ghost use Rattle.tree.specs.Table.{Has, fits, size_rows, Treed};
 ghost use Rattle.tree.specs.Planting.{adopted};
 
-use refusal::{Refusal, Verdict};
+use arrayvec::ArrayVec;
+use refusal::Refusal;
 
 // Makes the node the parent of a child; 0 is a leaf, and has none.
 fn adopt(parent: &mut [u8], child: u8, node: u8)
@@ -21,7 +22,9 @@ fn adopt(parent: &mut [u8], child: u8, node: u8)
     }
 }
 
-// Writes the row of a node with its two children, and makes it their parent; its own is not known yet.
+// Writes the row of a node with its two children, and makes it their parent; its own is not known yet. The three
+// tables stay three parameters: a caller of `tree` lends them one by one, and a struct of them would be made for two
+// calls alone.
 fn plant(left: &mut [u8], right: &mut [u8], parent: &mut [u8], row: usize, first: u8, second: u8)
     requires { (row < length left.old) × (row < length right.old) × (row < length parent.old)
         × (row < largest) × (first ≤ length parent.old) × (second ≤ length parent.old) }
@@ -47,21 +50,18 @@ fn fill(beats: &[u8], left: &mut [u8], right: &mut [u8], parent: &mut [u8])
         parent.new }
 {
     // a place for each node, and for one leaf more
-    let mut stack = [0u8; triangle::SIDE];
-    let mut depth: usize = 1;
+    let mut stack: ArrayVec<u8, { triangle::SIDE }> = ArrayVec::new();
+    stack.push(0);
     let mut row = left.len();
-    let mut at = beats.len();
-    while 0 < at {
-        at -= 1;
-        if beats[at] == 0 {
-            stack[depth] = 0;
-            depth += 1;
+    for beat in beats.iter().rev() {
+        if *beat == 0 {
+            stack.push(0);
         } else {
             row -= 1;
-            depth -= 2;
-            plant(left, right, parent, row, stack[depth + 1], stack[depth]);
-            stack[depth] = row as u8 + 1;
-            depth += 1;
+            let first = stack.pop().unwrap();
+            let second = stack.pop().unwrap();
+            plant(left, right, parent, row, first, second);
+            stack.push(row as u8 + 1);
         }
     }
 }
@@ -71,50 +71,37 @@ fn fit(n: usize, beats: usize, left: usize, right: usize, parent: usize) -> bool
     requires { n ≤ largest }
     ensures { result ≡ fits n beats left right parent }
 {
-    if beats != n + n {
-        return false;
-    }
-    if left != n {
-        return false;
-    }
-    if right != n {
-        return false;
-    }
-    parent == n
+    beats == n + n && left == n && right == n && parent == n
 }
 
 // The refusals by size, of both ways: 1, then 3. [P13]
-pub fn sized(n: u64, beats: usize, left: usize, right: usize, parent: usize) -> Verdict
+pub fn sized(n: u64, beats: usize, left: usize, right: usize, parent: usize) -> Result<(), Refusal>
     ensures { result ≡ judge (size_rows n beats left right parent) }
 {
     if triangle::LARGEST < n {
-        return Verdict::Refused(Refusal::TooManyTasks);
+        return Err(Refusal::TooManyTasks);
     }
     if fit(n as usize, beats, left, right, parent) {
-        Verdict::Accepted
+        Ok(())
     } else {
-        Verdict::Refused(Refusal::WrongLength)
+        Err(Refusal::WrongLength)
     }
 }
 
 // Fills the tables of the tree of a closed schedule of n tasks. Refuses 1, 3, then 4 over all beats, 5, 6; a
 // refusal changes nothing. [W5] [T4] [D1a]
-pub fn tree(n: u64, beats: &[u8], left: &mut [u8], right: &mut [u8], parent: &mut [u8]) -> Verdict
+pub fn tree(
+    n: u64,
+    beats: &[u8],
+    left: &mut [u8],
+    right: &mut [u8],
+    parent: &mut [u8],
+) -> Result<(), Refusal>
     ensures { Treed n beats.now left.old right.old parent.old result
         left.new right.new parent.new }
 {
-    let size = sized(n, beats.len(), left.len(), right.len(), parent.len());
-    match size {
-        Verdict::Refused(why) => Verdict::Refused(why),
-        Verdict::Accepted => {
-            let verdict = schedule::check(n, n, beats);
-            match verdict {
-                Verdict::Refused(why) => Verdict::Refused(why),
-                Verdict::Accepted => {
-                    fill(beats, left, right, parent);
-                    Verdict::Accepted
-                }
-            }
-        }
-    }
+    sized(n, beats.len(), left.len(), right.len(), parent.len())?;
+    schedule::check(n, n, beats)?;
+    fill(beats, left, right, parent);
+    Ok(())
 }

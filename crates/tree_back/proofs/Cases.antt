@@ -6,9 +6,9 @@ use mathlib.Core.Path.{◌≡◌, refl, ap}
 use Prim.Native.Nat.{ℕ}
 use native.Mathlib.Omega.{arith}
 use lib.ListN.{get_or}
+use Rattle.std.proofs.Common.{Ok, Err}
 use Rattle.refusal.specs.declared.Refusal.{Refusal}
 use Rattle.refusal.specs.declared.Refusal.TheVariants.{WrongLength, NoSuchTables}
-use Rattle.refusal.specs.declared.Verdict.{Verdict}
 use Rattle.refusal.specs.Answer.{refusal}
 use Rattle.refusal.proofs.Theorems.{refused-number}
 use Rattle.tree.proofs.Cases.{one, other-parent}
@@ -17,23 +17,23 @@ use Rattle.tree_back.specs.Tracing.{root_number, is_next, Traced, whole, broken}
 use Rattle.tree_back.proofs.Theorems.{untreed-one}
 
 -- the way back: tables that 10 has; tables that none has; a schedule lent too short
-untreed-10 : Untreed 1 (0 ∷ []) (0 ∷ []) (0 ∷ []) (7 ∷ 7 ∷ []) Verdict.Accepted (1 ∷ 0 ∷ [])
+untreed-10 : Untreed 1 (0 ∷ []) (0 ∷ []) (0 ∷ []) (7 ∷ 7 ∷ []) (Ok tt) (1 ∷ 0 ∷ [])
 untreed-10 = found refl one
 
-untreed-none : Untreed 1 (0 ∷ []) (0 ∷ []) (1 ∷ []) (7 ∷ 7 ∷ []) (Verdict.Refused NoSuchTables) (7 ∷ 7 ∷ [])
+untreed-none : Untreed 1 (0 ∷ []) (0 ∷ []) (1 ∷ []) (7 ∷ 7 ∷ []) (Err NoSuchTables) (7 ∷ 7 ∷ [])
 untreed-none = none refl other-parent
 
-untreed-short : Untreed 1 (0 ∷ []) (0 ∷ []) (0 ∷ []) (7 ∷ []) (Verdict.Refused WrongLength) (7 ∷ [])
+untreed-short : Untreed 1 (0 ∷ []) (0 ∷ []) (0 ∷ []) (7 ∷ []) (Err WrongLength) (7 ∷ [])
 untreed-short = unfit refl
 
 untreed-refused : (why : Refusal) (b : List ℕ)
-    → Untreed 1 (0 ∷ []) (0 ∷ []) (0 ∷ []) (7 ∷ 7 ∷ []) (Verdict.Refused why) b → ⊥
+    → Untreed 1 (0 ∷ []) (0 ∷ []) (0 ∷ []) (7 ∷ 7 ∷ []) (Err why) b → ⊥
 untreed-refused why b q = omega (arith, ap refusal (untreed-one q untreed-10).0, (refused-number why).0)
 
-untreed-taken : (b : List ℕ) → Untreed 1 (0 ∷ []) (0 ∷ []) (1 ∷ []) (7 ∷ 7 ∷ []) Verdict.Accepted b → ⊥
+untreed-taken : (b : List ℕ) → Untreed 1 (0 ∷ []) (0 ∷ []) (1 ∷ []) (7 ∷ 7 ∷ []) (Ok tt) b → ⊥
 untreed-taken b q = omega (arith, ap refusal (untreed-one q untreed-none).0)
 
-untreed-changed : Untreed 1 (0 ∷ []) (0 ∷ []) (1 ∷ []) (7 ∷ 7 ∷ []) (Verdict.Refused NoSuchTables) (1 ∷ 0 ∷ []) → ⊥
+untreed-changed : Untreed 1 (0 ∷ []) (0 ∷ []) (1 ∷ []) (7 ∷ 7 ∷ []) (Err NoSuchTables) (1 ∷ 0 ∷ []) → ⊥
 untreed-changed q = omega (arith, ap (λ (l : List ℕ). get_or l 0 0) (untreed-one q untreed-none).1)
 
 -- what the reading has found, and what it may not have found

@@ -9,7 +9,8 @@ use mathlib.Core.List.{List}
 use mathlib.Core.Path.{◌≡◌, refl, sym, ◌∙◌, ap}
 use Prim.Native.Nat.{ℕ, ◌+◌}
 use lib.ListN.{length}
-use Rattle.refusal.specs.declared.Verdict.{Verdict}
+use Rattle.std.proofs.Common.{Ok}
+use Rattle.refusal.specs.Answer.{Verdict}
 use Rattle.refusal.proofs.Rows.{both}
 use Rattle.tree.specs.Tree.{word}
 use Rattle.tree.specs.Table.{Has, Treed, filled}
@@ -49,21 +50,21 @@ has-lengths q = (
 
 module _ (n : ℕ) (b l r p : List ℕ) where
   pub back-accepts : Sized n b l r p → {c d : List ℕ} {v : Verdict} → Has n c l r p → Untreed n l r p b v d
-      → (v ≡ Verdict.Accepted) × (d ≡ c)
+      → (v ≡ Ok tt) × (d ≡ c)
   back-accepts s q u = untreed-one u (found (fitting-sizes n (length b) (length l) (length r) (length p) s) q)
 
 -- the way back from the tables that the way there filled
 pub there_and_back : {n : ℕ} {b l r p x y z out c : List ℕ} {v : Verdict}
-    → Treed n b l r p Verdict.Accepted x y z → length out ≡ n + n → Untreed n x y z out v c
-    → (v ≡ Verdict.Accepted) × (c ≡ b)
+    → Treed n b l r p (Ok tt) x y z → length out ≡ n + n → Untreed n x y z out v c
+    → (v ≡ Ok tt) × (c ≡ b)
 there_and_back {n} {b} {l} {r} {p} {x} {y} {z} {out} (filled e q) h u =
     let s = has-lengths q in
     back-accepts n out x y z ((tree-accepts n b l r p e).0.0, h, s.1, s.2, s.3) q u
 
 -- the way there from the schedule that the way back wrote
 pub back-and-there : {n : ℕ} {l r p out b x y z x' y' z' : List ℕ} {v : Verdict}
-    → Untreed n l r p out Verdict.Accepted b → length x ≡ n → length y ≡ n → length z ≡ n → Treed n b x y z v x' y' z'
-    → (v ≡ Verdict.Accepted) × (x' ≡ l) × (y' ≡ r) × (z' ≡ p)
+    → Untreed n l r p out (Ok tt) b → length x ≡ n → length y ≡ n → length z ≡ n → Treed n b x y z v x' y' z'
+    → (v ≡ Ok tt) × (x' ≡ l) × (y' ≡ r) × (z' ≡ p)
 back-and-there {n} {l} {r} {p} {out} {b} {x} {y} {z} (found e q) hx hy hz u =
     let few = (sizes-right n (length out) (length l) (length r) (length p) e).0 in
     treed-one u (filled (accepts-tree n b x y z (few, (has-lengths q).0, hx, hy, hz) (has-closed q)) q)

@@ -12,7 +12,7 @@
 --     next-so, next-not   the test for the next node, as a fact
 -- Assumes nothing.
 use mathlib.Core.Bool.{Bool, true, false, ◌&&◌, and-eq-true_iff, true≢false}
-use mathlib.Core.List.{List, [], ◌∷◌, ◌++◌, reverse, append_assoc, append-nil}
+use mathlib.Core.List.{List, [], ◌∷◌, ◌++◌, append_assoc, append-nil}
 use mathlib.Core.Path.{◌≡◌, refl, sym, ◌∙◌, ap, subst}
 use Prim.Native.Nat.{ℕ, zero, suc, ◌+◌, ◌-◌, ◌≤◌, ◌<◌}
 use native.Mathlib.Nat.{add-zero}
@@ -22,7 +22,7 @@ use native.Mathlib.Decide.{ℕ_discrete}
 use borrow.Author.Tests.{lt-ltb, eq-eqb, ne_eqb, ltb-true, eqb-true}
 use lib.Dec.{eqb, ltb}
 use lib.ListN.{length, get_or, set, take, length-set}
-use lib.Seq.{take_all, take-suc-set, get_or-set_same, get_or-set_other}
+use lib.Seq.{take_all, take-suc-set}
 use Rattle.schedule.specs.Schedule.{ones, zeros}
 use Rattle.tree.specs.Tree.{Tree, leaf, node, size, word, root, rights, parents}
 use Rattle.tree_back.specs.Tracing.{root_number, is_next, Traced, whole, broken}
@@ -30,7 +30,7 @@ use Rattle.tree.specs.Table.{Has}
 use Rattle.schedule.proofs.Tally.{ones-append}
 use Rattle.tree.proofs.Word.{ones-word}
 use Rattle.tree.proofs.Forest.{words}
-use Rattle.tree.proofs.Planted.{pop, push}
+use Rattle.std.proofs.lemmas.List.{nil_from_length}
 use Rattle.tree_back.proofs.Slots.{
   Reads,
   none,
@@ -57,31 +57,43 @@ pub record Grown (n : ℕ) (l r p b w : List ℕ) : Type 0 where
   pub read : Reads l r p 0 0 (root_number n) tree
   pub beats : word tree ≡ b ++ w
 
-pub record Traced-to (n : ℕ) (l r p : List ℕ) (at k own c d : ℕ) (st buf : List ℕ) : Type 0 where
+-- each of the waiting nodes is one of the first k
+pub data Low (k : ℕ) : List ℕ → Type 0 where
+  bottom : Low k []
+  above : {x : ℕ} {s : List ℕ} → 1 ≤ x → x ≤ k → Low k s → Low k (x ∷ s)
+
+low-more : {k : ℕ} {s : List ℕ} → Low k s → Low (suc k) s
+low-more bottom = bottom
+low-more (above h i u) = above h (omega arith) (low-more u)
+
+low-top : {k x : ℕ} {s : List ℕ} → Low k (x ∷ s) → (1 ≤ x) × (x ≤ k)
+low-top (above h i u) = (h, i)
+
+low-below : {k x : ℕ} {s : List ℕ} → Low k (x ∷ s) → Low k s
+low-below (above h i u) = u
+
+pub record Traced-to (n : ℕ) (l r p : List ℕ) (at k own c : ℕ) (s buf : List ℕ) : Type 0 where
   pub within : at ≤ n + n
   pub long : length buf ≡ n + n
-  pub room : n ≤ length st
   pub nodes : k ≤ n
   pub ahead : k ≤ at
-  pub deep : d + at ≡ k + k
+  pub deep : length s + at ≡ k + k
   pub counted : ones (take at buf) ≡ k
-  pub low : (j : ℕ) → j < d → (1 ≤ get_or st j 0) × (get_or st j 0 ≤ k)
-  pub sound : (ts : List Tree) → Rest l r p own k c (reverse (take d st)) ts → Grown n l r p (take at buf) (words ts)
+  pub low : Low k s
+  pub sound : (ts : List Tree) → Rest l r p own k c s ts → Grown n l r p (take at buf) (words ts)
   pub complete : (t : Tree) → Reads l r p 0 0 (root_number n) t
-      → (ts : List Tree) × Rest l r p own k c (reverse (take d st)) ts × (word t ≡ take at buf ++ words ts)
+      → (ts : List Tree) × Rest l r p own k c s ts × (word t ≡ take at buf ++ words ts)
 
-pub trace-start : (n : ℕ) (l r p st buf : List ℕ) → length buf ≡ n + n → n ≤ length st
-    → Traced-to n l r p 0 0 0 (root_number n) 0 st buf
+pub trace-start : (n : ℕ) (l r p buf : List ℕ) → length buf ≡ n + n → Traced-to n l r p 0 0 0 (root_number n) [] buf
 unfolding words ones
-trace-start n l r p st buf e h = record {
+trace-start n l r p buf e = record {
   within = omega arith;
   long = e;
-  room = h;
   nodes = omega arith;
   ahead = omega arith;
   deep = refl;
   counted = refl;
-  low = λ j g. absurd (omega arith);
+  low = bottom;
   sound = only;
   complete = λ t q. (t ∷ [], last q, sym (append-nil (word t)));
 }
@@ -126,82 +138,63 @@ longer : (buf : List ℕ) (at v : ℕ) (w : List ℕ) → at < length buf
     → take (suc at) (set buf at v) ++ w ≡ take at buf ++ (v ∷ w)
 longer buf at v w h = rw (take-suc-set buf at v) (append_assoc (take at buf) (v ∷ []) w)
 
-module _ {n : ℕ} {l r p : List ℕ} {at k own c d : ℕ} {st buf : List ℕ} (u : Traced-to n l r p at k own c d st buf)
+module _ {n : ℕ} {l r p : List ℕ} {at k own c : ℕ} {s buf : List ℕ} (u : Traced-to n l r p at k own c s buf)
     (h : at < n + n) where
   inside : at < length buf
   inside = omega (arith, u.long)
 
-  module _ (z : c ≡ 0) (e : ℕ) (f : d ≡ suc e) where
-    abbrev top : ℕ
-    top = get_or st e 0
+  -- the node on top is the one that waits last
+  module _ (z : c ≡ 0) (top : ℕ) (below : List ℕ) (f : s ≡ top ∷ below) where
+    pub trace-low : (1 ≤ top) × (top ≤ k)
+    trace-low = low-top (subst (Low k) f u.low)
 
-    full : e < length st
-    full = omega (arith, u.deep, u.ahead, u.nodes, u.room)
-
-    popped : reverse (take d st) ≡ top ∷ reverse (take e st)
-    popped = rw f (pop st e full)
-
-    leaf-sound : (ts : List Tree) → Rest l r p top k (entry r top) (reverse (take e st)) ts
+    leaf-sound : (ts : List Tree) → Rest l r p top k (entry r top) below ts
         → Grown n l r p (take (suc at) (set buf at 0)) (words ts)
     unfolding words word size
     leaf-sound ts q =
-        let rest : Rest l r p own k c (reverse (take d st)) (leaf ∷ ts) =
-        subst (λ (w : List ℕ). Rest l r p own k c w (leaf ∷ ts)) (sym popped)
-        (subst (λ (j : ℕ). Rest l r p own k j (top ∷ reverse (take e st)) (leaf ∷ ts)) (sym z)
-        (more none
-        (subst (λ (j : ℕ). Rest l r p top j (entry r top) (reverse (take e st)) ts) (sym (add-zero k)) q))) in
+        let rest : Rest l r p own k c s (leaf ∷ ts) =
+        subst (λ (w : List ℕ). Rest l r p own k c w (leaf ∷ ts)) (sym f)
+        (subst (λ (j : ℕ). Rest l r p own k j (top ∷ below) (leaf ∷ ts)) (sym z)
+        (more none (subst (λ (j : ℕ). Rest l r p top j (entry r top) below ts) (sym (add-zero k)) q))) in
         let g = u.sound (leaf ∷ ts) rest in
         record { tree = g.tree; read = g.read; beats = g.beats ∙ sym (longer buf at 0 (words ts) inside) }
 
     leaf-complete : (t : Tree) → Reads l r p 0 0 (root_number n) t
-        → (ts : List Tree) × Rest l r p top k (entry r top) (reverse (take e st)) ts
+        → (ts : List Tree) × Rest l r p top k (entry r top) below ts
         × (word t ≡ take (suc at) (set buf at 0) ++ words ts)
     leaf-complete t q =
         let g = u.complete t q in
-        let f = rest-pop l r p g.1 z top (reverse (take e st)) popped in
-        (f.0, f.1, g.2 ∙ ap (λ (w : List ℕ). take at buf ++ w) f.2 ∙ sym (longer buf at 0 (words f.0) inside))
+        let o = rest-pop l r p g.1 z top below f in
+        (o.0, o.1, g.2 ∙ ap (λ (w : List ℕ). take at buf ++ w) o.2 ∙ sym (longer buf at 0 (words o.0) inside))
 
-    leaf-more : Traced-to n l r p (suc at) k top (entry r top) e st (set buf at 0)
+    leaf-more : Traced-to n l r p (suc at) k top (entry r top) below (set buf at 0)
     leaf-more = record {
       within = h;
       long = length-set buf at 0 ∙ u.long;
-      room = u.room;
       nodes = u.nodes;
       ahead = omega (arith, u.ahead);
-      deep = omega (arith, u.deep);
+      deep = omega (arith, u.deep, ap length f);
       counted = ones-more buf at 0 inside ∙ zero_more (take at buf) ∙ u.counted;
-      low = λ j g. u.low j (omega arith);
+      low = low-below (subst (Low k) f u.low);
       sound = leaf-sound;
       complete = leaf-complete;
     }
 
-  -- the same in the words of the code
-  pub trace-leaf : c ≡ 0 → ((d ≡ 0) → ⊥)
-      → Traced-to n l r p (at + 1) k (get_or st (d - 1) 0) (get_or r (get_or st (d - 1) 0 - 1) 0) (d - 1) st
-      (set buf at 0)
-  trace-leaf z m =
-      let f : d ≡ suc (d - 1) = omega (arith, m) in
-      rw (add-one at)
-      (subst (λ (j : ℕ). Traced-to n l r p (suc at) k (get_or st (d - 1) 0) j (d - 1) st (set buf at 0))
-      (entry-is r (get_or st (d - 1) 0) (u.low (d - 1) (omega arith)).0)
-      (leaf-more z (d - 1) f))
+    -- the same in the words of the code
+    pub trace-leaf : Traced-to n l r p (at + 1) k top (get_or r (top - 1) 0) below (set buf at 0)
+    trace-leaf =
+        rw (add-one at)
+        (subst (λ (j : ℕ). Traced-to n l r p (suc at) k top j below (set buf at 0)) (entry-is r top trace-low.0)
+        leaf-more)
 
   module _ (next : c ≡ suc k) (inner : k < n) (upper : get_or p k 0 ≡ own) where
-    deeper : d < length st
-    deeper = omega (arith, u.deep, u.ahead, u.room)
-
-    pushed : reverse (take (suc d) (set st d c)) ≡ suc k ∷ reverse (take d st)
-    pushed = push st d c deeper ∙ ap (λ (x : ℕ). x ∷ reverse (take d st)) next
-
-    node-sound : (ts : List Tree) → Rest l r p c (suc k) (get_or l k 0) (reverse (take (suc d) (set st d c))) ts
+    node-sound : (ts : List Tree) → Rest l r p c (suc k) (get_or l k 0) (c ∷ s) ts
         → Grown n l r p (take (suc at) (set buf at 1)) (words ts)
     node-sound ts q =
-        let open-rest : Rest l r p (suc k) (suc k) (get_or l k 0) (suc k ∷ reverse (take d st)) ts =
-        subst (λ (w : List ℕ). Rest l r p (suc k) (suc k) (get_or l k 0) w ts) pushed
-        (subst (λ (j : ℕ). Rest l r p j (suc k) (get_or l k 0) (reverse (take (suc d) (set st d c))) ts) next q) in
+        let open-rest : Rest l r p (suc k) (suc k) (get_or l k 0) (suc k ∷ s) ts =
+        subst (λ (j : ℕ). Rest l r p j (suc k) (get_or l k 0) (j ∷ s) ts) next q in
         let f = rest-close l r p upper open-rest refl in
-        let g =
-        u.sound f.0 (subst (λ (j : ℕ). Rest l r p own k j (reverse (take d st)) f.0) (sym next) f.1) in
+        let g = u.sound f.0 (subst (λ (j : ℕ). Rest l r p own k j s f.0) (sym next) f.1) in
         record {
           tree = g.tree;
           read = g.read;
@@ -209,47 +202,32 @@ module _ {n : ℕ} {l r p : List ℕ} {at k own c d : ℕ} {st buf : List ℕ} (
         }
 
     node-complete : (t : Tree) → Reads l r p 0 0 (root_number n) t
-        → (ts : List Tree) × Rest l r p c (suc k) (get_or l k 0) (reverse (take (suc d) (set st d c))) ts
+        → (ts : List Tree) × Rest l r p c (suc k) (get_or l k 0) (c ∷ s) ts
         × (word t ≡ take (suc at) (set buf at 1) ++ words ts)
     node-complete t q =
         let g = u.complete t q in
         let f = rest-open l r p g.1 (λ z. omega arith) in (
           f.trees,
-          subst (λ (w : List ℕ). Rest l r p c (suc k) (get_or l k 0) w f.trees) (sym pushed)
-              (subst (λ (j : ℕ). Rest l r p j (suc k) (get_or l k 0) (suc k ∷ reverse (take d st)) f.trees) (sym next)
-              f.rest),
+          subst (λ (j : ℕ). Rest l r p j (suc k) (get_or l k 0) (j ∷ s) f.trees) (sym next) f.rest,
           g.2 ∙ ap (λ (w : List ℕ). take at buf ++ w) f.beats ∙ sym (longer buf at 1 (words f.trees) inside),
         )
 
-    node-more : Traced-to n l r p (suc at) (suc k) c (get_or l k 0) (suc d) (set st d c) (set buf at 1)
+    node-more : Traced-to n l r p (suc at) (suc k) c (get_or l k 0) (c ∷ s) (set buf at 1)
     node-more = record {
       within = h;
       long = length-set buf at 1 ∙ u.long;
-      room = omega (arith, u.room, length-set st d c);
       nodes = inner;
       ahead = omega (arith, u.ahead);
       deep = omega (arith, u.deep);
       counted = ones-more buf at 1 inside ∙ one_more (take at buf) ∙ ap suc u.counted;
-      low = lower;
+      low = above (omega arith) (omega arith) (low-more u.low);
       sound = node-sound;
       complete = node-complete;
     }
-      where
-        lower : (j : ℕ) → j < suc d → (1 ≤ get_or (set st d c) j 0) × (get_or (set st d c) j 0 ≤ suc k)
-        lower j g =
-            elim (ℕ_discrete j d) [
-              | yes e ↦
-                  rw e (omega (arith, get_or-set_same st d c 0 deeper), omega (arith, get_or-set_same st d c 0 deeper))
-              | no m ↦ below (get_or-set_other st d j c 0 m) (u.low j (omega (arith, m)))
-            ]
-          where
-            below : get_or (set st d c) j 0 ≡ get_or st j 0 → (1 ≤ get_or st j 0) × (get_or st j 0 ≤ k)
-                → (1 ≤ get_or (set st d c) j 0) × (get_or (set st d c) j 0 ≤ suc k)
-            below e f = (omega (arith, f.0), omega (arith, f.1))
 
   pub trace-node : (k < n) × (c ≡ suc k) × (get_or p k 0 ≡ own)
-      → Traced-to n l r p (at + 1) (k + 1) c (get_or l k 0) (d + 1) (set st d c) (set buf at 1)
-  trace-node q = rw (add-one at, add-one k, add-one d) (node-more q.1 q.0 q.2)
+      → Traced-to n l r p (at + 1) (k + 1) c (get_or l k 0) (c ∷ s) (set buf at 1)
+  trace-node q = rw (add-one at, add-one k) (node-more q.1 q.0 q.2)
 
 -- the tree that a schedule and its tables have is read from the tables
 pub has-read : {n : ℕ} {b l r p : List ℕ} (q : Has n b l r p) → Reads l r p 0 0 (root_number n) q.tree
@@ -264,19 +242,19 @@ none_has : (n : ℕ) (l r p : List ℕ) → ((t : Tree) → Reads l r p 0 0 (roo
     → Has n b l r p → ⊥
 none_has n l r p f b q = f q.tree (has-read q) q.nodes
 
-module _ {n : ℕ} {l r p : List ℕ} {at k own c d : ℕ} {st buf : List ℕ} (u : Traced-to n l r p at k own c d st buf) where
-  pub trace-stuck : c ≡ 0 → d ≡ 0 → at < n + n → (b : List ℕ) → Has n b l r p → ⊥
+module _ {n : ℕ} {l r p : List ℕ} {at k own c : ℕ} {s buf : List ℕ} (u : Traced-to n l r p at k own c s buf) where
+  pub trace-stuck : c ≡ 0 → s ≡ [] → at < n + n → (b : List ℕ) → Has n b l r p → ⊥
   unfolding ones zeros
   trace-stuck z e h = none_has n l r p (λ t q m. short t (u.complete t q) m)
     where
       short : (t : Tree)
-          → (ts : List Tree) × Rest l r p own k c (reverse (take d st)) ts × (word t ≡ take at buf ++ words ts)
+          → (ts : List Tree) × Rest l r p own k c s ts × (word t ≡ take at buf ++ words ts)
           → size t ≡ n → ⊥
       short t g m =
           let w : word t ≡ take at buf ++ 0 ∷ [] =
           g.2
-          ∙ ap (λ (w : List ℕ). take at buf ++ w) (rest-last l r p g.1 z (ap (λ (j : ℕ). reverse (take j st)) e)) in
-          omega (arith, u.deep, ones-word t, ap ones w, ones-append (take at buf) (0 ∷ []), u.counted)
+          ∙ ap (λ (w : List ℕ). take at buf ++ w) (rest-last l r p g.1 z e) in
+          omega (arith, u.deep, ap length e, ones-word t, ap ones w, ones-append (take at buf) (0 ∷ []), u.counted)
 
   -- a node in the slot is one more than were met
   beyond : ((c ≡ 0) → ⊥) → (t : Tree) → Reads l r p 0 0 (root_number n) t → size t ≡ n
@@ -297,8 +275,8 @@ module _ {n : ℕ} {l r p : List ℕ} {at k own c d : ℕ} {st buf : List ℕ} (
   trace-other z f = none_has n l r p (λ t q m. f (beyond z t q m))
 
   module _ (e : n + n ≤ at) where
-    met : (k ≡ n) × (d ≡ 0)
-    met = (omega (arith, u.deep, u.within, u.nodes), omega (arith, u.deep, u.within, u.nodes))
+    met : (k ≡ n) × (s ≡ [])
+    met = (omega (arith, u.deep, u.within, u.nodes), nil_from_length s (omega (arith, u.deep, u.within, u.nodes)))
 
     trace-over : ((c ≡ 0) → ⊥) → (b : List ℕ) → Has n b l r p → ⊥
     trace-over z = none_has n l r p (λ t q m. omega (arith, met.0, (beyond z t q m).0))
@@ -306,8 +284,8 @@ module _ {n : ℕ} {l r p : List ℕ} {at k own c d : ℕ} {st buf : List ℕ} (
     trace-all : c ≡ 0 → length l ≡ n → length r ≡ n → length p ≡ n → Has n buf l r p
     unfolding words word ones
     trace-all z hl hr hp =
-        let rest : Rest l r p own k c (reverse (take d st)) (leaf ∷ []) =
-        subst (λ (j : ℕ). Rest l r p own k c (reverse (take j st)) (leaf ∷ [])) (sym met.1)
+        let rest : Rest l r p own k c s (leaf ∷ []) =
+        subst (λ (w : List ℕ). Rest l r p own k c w (leaf ∷ [])) (sym met.1)
         (subst (λ (j : ℕ). Rest l r p own k j [] (leaf ∷ [])) (sym z) (last none)) in
         let g = u.sound (leaf ∷ []) rest in
         let w : word g.tree ≡ buf ++ 0 ∷ [] =

@@ -539,6 +539,9 @@ pub fn rows() -> [[u64; 33]; 33]
     FORMS
 }
 
+// Three functions and not one with a parameter: they differ in the arms of a match, which are literals. A list of
+// counts as an argument would be an array, built anew at each read (200 ns, bench/RESULTS.md), and one match of all is
+// more than one function's check takes.
 // The entry at t, s, which stands at i among the counts with s up to t from row 0 on.
 fn in_low(t: u64, s: u64, i: u64) -> u64
     requires { at t s ≡ get_or low i 0 }

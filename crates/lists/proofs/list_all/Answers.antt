@@ -6,8 +6,8 @@ use Rattle.lookup.specs.Lent.{Counts}
 use Rattle.lookup.proofs.Lent.{table-counts}
 use Rattle.lists.proofs.list_all.Goals as goal
 
+pub lent-requires : goal.lent-requires
+lent-requires g c = subst Counts (sym c.rows-rows.ensures) table-counts
+
 pub run-requires : goal.run-requires
-run-requires g c = (
-  subst Counts (sym c.rows-rows.ensures) table-counts,
-  record { any-record = search rules; any-beats = search rules },
-)
+run-requires g c = record { any-record = search rules; any-beats = search rules }

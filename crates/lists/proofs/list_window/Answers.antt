@@ -17,57 +17,57 @@ use Rattle.lists.proofs.list_window.Goals as goal
 pub returns-in_default : goal.returns-in_default
 returns-in_default c =
     going-rests (line_of c.args.which) widest c.args.ended c.args.src.now
-    c.args.text.now c.loop-room.invariant.1 (sym c.at_front-front.ensures)
+    c.args.text.now c.loop-table.invariant.1 (sym c.at_front-front.ensures)
     (λ e. absurd (c.in_default.not-Record e))
 
 pub returns-then-text-put-lt-WIDEST : goal.returns-then-text-put-lt-WIDEST
 returns-then-text-put-lt-WIDEST c =
     going-rests (line_of c.args.which) widest c.args.ended c.args.src.now
-    c.args.text.now c.loop-room.invariant.1
+    c.args.text.now c.loop-table.invariant.1
     (sym c.at_front-front.ensures ∙ c.in-Record.is)
-    (λ e. omega (arith, c.if-text-put-lt-WIDEST.true, c.loop-room.invariant.1.long))
+    (λ e. omega (arith, c.if-text-put-lt-WIDEST.true, c.loop-table.invariant.1.long))
 
 pub returns-then-printed : goal.returns-then-printed
 returns-then-printed c =
-    let going : Going ((line_of c.args.which)) widest (c.args.ended) (c.args.src.now) (c.args.text.now) (c.loop-room.at)
-    (c.loop-room.put) (c.loop-room.text) = c.loop-room.invariant.1 in
-    let same : length ((put_mid (c.loop-room.put) (length (c.loop-room.text) - (c.loop-room.put)) (c.loop-room.text)
-    (c.list-printed.new.out))) ≡ length (c.loop-room.text) =
-    same_len_mid (c.loop-room.put) (length (c.loop-room.text) - (c.loop-room.put)) (c.loop-room.text)
+    let going : Going (line_of c.args.which) widest c.args.ended c.args.src.now c.args.text.now c.loop-table.at
+    (c.loop-table.put) (c.loop-table.text) = c.loop-table.invariant.1 in
+    let same : length ((put_mid (c.loop-table.put) (length (c.loop-table.text) - (c.loop-table.put)) (c.loop-table.text)
+    (c.list-printed.new.out))) ≡ length (c.loop-table.text) =
+    same_len_mid (c.loop-table.put) (length (c.loop-table.text) - (c.loop-table.put)) (c.loop-table.text)
     (c.list-printed.new.out) c.list-printed.auto.out in
-    let at-record : front_of (c.args.ended) (tail (c.args.src.now) (c.loop-room.at)) ≡ Front.Record =
+    let at-record : front_of (c.args.ended) (tail (c.args.src.now) (c.loop-table.at)) ≡ Front.Record =
     sym c.at_front-front.ensures ∙ c.in-Record.is in
-    let wide : widest ≤ length (c.args.text.now) - (c.loop-room.put) =
+    let wide : widest ≤ length (c.args.text.now) - (c.loop-table.put) =
     omega (arith, c.if-text-put-lt-WIDEST.false, going.long) in
     let ends-here : c.list-printed.result.last ≡ true
     → Passes ((line_of c.args.which)) widest (c.args.ended) (c.args.src.now) (c.args.text.now)
     (record {
-      consumed = (c.loop-room.at);
-      bytes = (c.loop-room.put) + c.list-printed.result.bytes;
+      consumed = (c.loop-table.at);
+      bytes = (c.loop-table.put) + c.list-printed.result.bytes;
       front = Front.Over;
-    }) ((put_mid (c.loop-room.put) (length (c.loop-room.text) - (c.loop-room.put)) (c.loop-room.text)
+    }) ((put_mid (c.loop-table.put) (length (c.loop-table.text) - (c.loop-table.put)) (c.loop-table.text)
     (c.list-printed.new.out))) =
     going-last ((line_of c.args.which)) widest (c.args.ended) (c.args.src.now) (c.args.text.now) (going)
     c.list-printed.ensures refl (same) (at-record) (wide) in
     ends-here c.if-printed.true
 
-pub loop-room-preserved : goal.loop-room-preserved
-loop-room-preserved c =
-    let going : Going ((line_of c.args.which)) widest (c.args.ended) (c.args.src.now) (c.args.text.now) (c.loop-room.at)
-    (c.loop-room.put) (c.loop-room.text) = c.loop-room.invariant.1 in
-    let same : length ((put_mid (c.loop-room.put) (length (c.loop-room.text) - (c.loop-room.put)) (c.loop-room.text)
-    (c.list-printed.new.out))) ≡ length (c.loop-room.text) =
-    same_len_mid (c.loop-room.put) (length (c.loop-room.text) - (c.loop-room.put)) (c.loop-room.text)
+pub loop-table-preserved : goal.loop-table-preserved
+loop-table-preserved c =
+    let going : Going (line_of c.args.which) widest c.args.ended c.args.src.now c.args.text.now c.loop-table.at
+    (c.loop-table.put) (c.loop-table.text) = c.loop-table.invariant.1 in
+    let same : length ((put_mid (c.loop-table.put) (length (c.loop-table.text) - (c.loop-table.put)) (c.loop-table.text)
+    (c.list-printed.new.out))) ≡ length (c.loop-table.text) =
+    same_len_mid (c.loop-table.put) (length (c.loop-table.text) - (c.loop-table.put)) (c.loop-table.text)
     (c.list-printed.new.out) c.list-printed.auto.out in
-    let at-record : front_of (c.args.ended) (tail (c.args.src.now) (c.loop-room.at)) ≡ Front.Record =
+    let at-record : front_of (c.args.ended) (tail (c.args.src.now) (c.loop-table.at)) ≡ Front.Record =
     sym c.at_front-front.ensures ∙ c.in-Record.is in
-    let wide : widest ≤ length (c.args.text.now) - (c.loop-room.put) =
+    let wide : widest ≤ length (c.args.text.now) - (c.loop-table.put) =
     omega (arith, c.if-text-put-lt-WIDEST.false, going.long) in
     let goes_on : c.list-printed.result.last ≡ false
     → Going ((line_of c.args.which)) widest (c.args.ended) (c.args.src.now) (c.args.text.now)
-    ((c.loop-room.at) + c.list-printed.result.consumed) ((c.loop-room.put) + c.list-printed.result.bytes)
-    ((put_mid (c.loop-room.put) (length (c.loop-room.text) - (c.loop-room.put)) (c.loop-room.text)
+    ((c.loop-table.at) + c.list-printed.result.consumed) ((c.loop-table.put) + c.list-printed.result.bytes)
+    ((put_mid (c.loop-table.put) (length (c.loop-table.text) - (c.loop-table.put)) (c.loop-table.text)
     (c.list-printed.new.out))) =
     going_more ((line_of c.args.which)) widest (c.args.ended) (c.args.src.now) (c.args.text.now) (going)
     c.list-printed.ensures refl (same) (at-record) (wide) in
-    (c.list-printed.auto.room ∙ c.loop-room.invariant.0, goes_on c.if-printed.false)
+    (c.list-printed.auto.room ∙ c.loop-table.invariant.0, goes_on c.if-printed.false)

@@ -8,10 +8,10 @@ use Rattle.stream.proofs.Going.{Going}
 use Rattle.lists.specs.Listed.{line_of, widest}
 use Rattle.lists.proofs.list_window.Given as goal
 
-abbrev pub invariant-loop-room : goal.invariant-loop-room
-invariant-loop-room l =
+abbrev pub invariant-loop-table : goal.invariant-loop-table
+invariant-loop-table l =
     (length l.room ≡ length l.initial.room)
     × Going (line_of l.which) widest l.ended l.src l.initial.text l.at l.put l.text
 
-abbrev pub decreases-loop-room : goal.decreases-loop-room
-decreases-loop-room l = length l.src - l.at
+abbrev pub decreases-loop-table : goal.decreases-loop-table
+decreases-loop-table l = length l.src - l.at

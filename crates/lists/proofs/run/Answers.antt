@@ -1,6 +1,5 @@
 -- `run` meets its contract: a turn keeps what the loop needs. Assumes nothing.
 use mathlib.Core.Path.{◌∙◌}
-use Rattle.stream.proofs.Stops.{onward-answer}
 use Rattle.lists.proofs.run.Goals as goal
 
 pub loop-turns-preserved : goal.loop-turns-preserved
@@ -11,5 +10,4 @@ loop-turns-preserved g c =
       room-kept = c.turn-state.auto.room ∙ stands.room-kept;
       text-kept = c.turn-state.auto.text ∙ stands.text-kept;
       inside = c.turn-state.ensures.inside;
-      answer = onward-answer c.turn-state.ensures.turns.onward;
     }

@@ -1,6 +1,6 @@
--- `run` meets its contract: the buffers keep their sizes, the program stays inside them, and the answer is 0, 1 or 2.
+-- `run` meets its contract: the buffers keep their sizes and the program stays inside them.
 -- The measure is the turns that are left. Assumes nothing.
-use Rattle.std.proofs.Common.{List, ℕ, length, ◌≡◌, ◌≤◌}
+use Rattle.std.proofs.Common.{List, ℕ, length, ◌≡◌}
 use Rattle.stream.specs.declared.Stream.{Stream}
 use Rattle.stream.specs.Exchange.{Inside}
 use Rattle.lists.proofs.run.Given as goal
@@ -11,7 +11,6 @@ pub record Standing (input₀ room₀ text₀ input room text : List ℕ) (state
   pub room-kept : length room ≡ length room₀
   pub text-kept : length text ≡ length text₀
   pub inside : Inside input state
-  pub answer : state.answer ≤ 2
 
 abbrev pub invariant-loop-turns : goal.invariant-loop-turns
 invariant-loop-turns g l = Standing l.initial.input l.initial.room l.initial.text l.input l.room l.text l.state

@@ -3,4 +3,4 @@ use Rattle.stream.proofs.Stops.{ready}
 use Rattle.lists.proofs.turn.Goals as goal
 
 pub exchange-requires : goal.exchange-requires
-exchange-requires g c = ready c.requires.2 c.requires.1.any-record c.list_window-pass.ensures
+exchange-requires g c = ready c.requires.1 c.requires.0.any-record c.list_window-pass.ensures

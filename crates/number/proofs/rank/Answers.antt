@@ -1,112 +1,63 @@
 -- `number::rank` meets its contract: the leading ones and zeros close their own list, and each turn of the loop counts
 -- one beat more, which was tested. Where a test fails, the beats are no schedule of these counts. Assumes nothing.
-use mathlib.Core.Bool.{true, true≢false}
-use mathlib.Core.Path.{◌≡◌, refl, ◌∙◌, ap, ap₂, sym}
-use Prim.Native.Nat.{ℕ, ◌+◌, ◌-◌, ◌≤◌, ◌<◌}
+use mathlib.Core.Path.{◌∙◌, sym}
 use native.Mathlib.Omega.{arith}
-use lib.ListN.{length}
-use Rattle.triangle.specs.Count.{N, largest}
 use Rattle.triangle.proofs.Count.{N-pos}
-use Rattle.triangle.proofs.Rule.{N-fits}
-use Rattle.counts.specs.Counts.{Allowed}
-use Rattle.schedule.proofs.Skipping.{Skips, skipped-skips}
-use Rattle.number.specs.Ranking.{goes_on}
-use Rattle.number.proofs.Counting.{sized-parts, no-rank, ranked, goes_parts, level-parts, front-level, Counted}
-use Rattle.number.proofs.Counting.{counted-below, counted-goes, counted-front, counted-turn, counted-all, counted-short}
+use Rattle.number.proofs.Counting.{level-parts, sized-parts, lead-within, lead-fails, counted-front}
+use Rattle.number.proofs.Counting.{turn-fails, turn-counted, turn-within, end-ranks, end-short}
 use Rattle.number.proofs.rank.Goals as goal
 
 pub overflow_sub-downs : goal.overflow_sub-downs
-overflow_sub-downs c =
-    let first : Skips c.args.beats.now 0 1 (c.skip-up.result) = skipped-skips (omega arith) c.skip-up.ensures in
-    let second : Skips c.args.beats.now (c.skip-up.result) 0 (c.skip-rise.result) =
-    skipped-skips first.high c.skip-rise.ensures in
-    second.low
+overflow_sub-downs c = (lead-within c.args.beats.now c.skip-up.ensures c.skip-rise.ensures).0
 
-pub returns-then-not-level : goal.returns-then-not-level
-returns-then-not-level c =
-    let first : Skips c.args.beats.now 0 1 (c.skip-up.result) = skipped-skips (omega arith) c.skip-up.ensures in
-    let second : Skips c.args.beats.now (c.skip-up.result) 0 (c.skip-rise.result) =
-    skipped-skips first.high c.skip-rise.ensures in
-    no-rank c.unranked-then-not-level.result.number c.unranked-then-not-level.ensures
-    (λ a p. true≢false
-    (sym (front-level (first) (second) p)
-    ∙ sym c.level.ensures
-    ∙ c.if-not-level.true))
+pub returns-then-not-level-clause-none : goal.returns-then-not-level-clause-none
+returns-then-not-level-clause-none c =
+    let steep = sym c.level.ensures ∙ c.if-not-level.true in
+    λ a p. lead-fails c.args.beats.now c.skip-up.ensures c.skip-rise.ensures steep p
 
 pub overflow_sub-number : goal.overflow_sub-number
 overflow_sub-number c =
-    let looked : c.look-number.result ≡ N (c.skip-up.result) (c.skip-rise.result - c.skip-up.result) =
-    c.look-number.ensures in
-    let lead : (c.skip-up.result ≤ c.args.t) × (c.skip-rise.result - c.skip-up.result ≤ c.skip-up.result) =
-    level-parts c.args.t (c.skip-up.result) (c.skip-rise.result - c.skip-up.result)
-    (sym c.level.ensures ∙ c.if-not-level.false) in
-    omega (arith, looked, N-pos (c.skip-up.result) (c.skip-rise.result - c.skip-up.result) lead.1)
+    let lead = level-parts c.args.t _ _ (sym c.level.ensures ∙ c.if-not-level.false) in
+    omega (arith, c.look-number.ensures, N-pos _ _ lead.1)
 
-pub loop-at-init : goal.loop-at-init
-loop-at-init c =
-    let first : Skips c.args.beats.now 0 1 (c.skip-up.result) = skipped-skips (omega arith) c.skip-up.ensures in
-    let second : Skips c.args.beats.now (c.skip-up.result) 0 (c.skip-rise.result) =
-    skipped-skips first.high c.skip-rise.ensures in
-    let lead : (c.skip-up.result ≤ c.args.t) × (c.skip-rise.result - c.skip-up.result ≤ c.skip-up.result) =
-    level-parts c.args.t (c.skip-up.result) (c.skip-rise.result - c.skip-up.result)
-    (sym c.level.ensures ∙ c.if-not-level.false) in
-    let counted : (n : ℕ) → n ≡ N (c.skip-up.result) (c.skip-rise.result - c.skip-up.result) - 1
-    → Counted c.args.t c.args.beats.now (c.skip-rise.result) (c.skip-up.result) (c.skip-rise.result - c.skip-up.result)
-    n = λ n e. counted-front (first) (second) lead.0 lead.1 n e in
-    let looked : c.look-number.result ≡ N (c.skip-up.result) (c.skip-rise.result - c.skip-up.result) =
-    c.look-number.ensures in
-    counted _ (ap₂ ◌-◌ (looked) refl)
+pub slice_bounds-next-items-count : goal.slice_bounds-next-items-count
+slice_bounds-next-items-count c = (lead-within c.args.beats.now c.skip-up.ensures c.skip-rise.ensures).1
 
-pub returns-then-not-fits : goal.returns-then-not-fits
-returns-then-not-fits c =
-    let inside : c.loop-at.at < length c.args.beats.now = c.loop-at-test.true in
-    let turn = c.loop-at in
-    let goes = ap (goes_on c.args.t turn.ups turn.downs) c.wide-beat.ensures in
-    no-rank c.unranked-then-not-fits.result.number c.unranked-then-not-fits.ensures
-    (λ a p. true≢false
-    (sym (counted-goes turn.invariant p (inside))
-    ∙ sym (c.fits.ensures ∙ goes)
-    ∙ c.if-not-fits.true))
+pub slice_bounds-next-items-start : goal.slice_bounds-next-items-start
+slice_bounds-next-items-start c = (lead-within c.args.beats.now c.skip-up.ensures c.skip-rise.ensures).1
+
+pub loop-next-init : goal.loop-next-init
+loop-next-init c =
+    let level = sym c.level.ensures ∙ c.if-not-level.false in
+    counted-front c.args.beats.now c.skip-up.ensures c.skip-rise.ensures level c.look-number.ensures
+
+pub returns-then-not-fits-clause-none : goal.returns-then-not-fits-clause-none
+returns-then-not-fits-clause-none c =
+    let l = c.loop-next in
+    let wrong = sym c.fits.ensures ∙ c.if-not-fits.true in
+    λ a p. turn-fails c.skip-rise.result l.next-index l.invariant c.loop-next-test.true c.wide-beat.ensures wrong p
 
 pub overflow_add-number : goal.overflow_add-number
 overflow_add-number c =
-    let inside : c.loop-at.at < length c.args.beats.now = c.loop-at-test.true in
-    let goes : goes_on c.args.t c.loop-at.ups c.loop-at.downs (c.wide-beat.result) ≡ true =
-    sym c.fits.ensures ∙ c.if-not-fits.false in
-    let grown : let beat = c.wide-beat.result in
-    Counted c.args.t c.args.beats.now (c.loop-at.at + 1) (c.loop-at.ups + beat)
-    (c.loop-at.downs + (1 - beat)) (c.loop-at.number + c.growth-number.result) =
-    counted-turn c.loop-at.invariant (inside) (c.wide-beat.result) c.growth-number.result c.wide-beat.ensures
-    (goes) c.growth-number.ensures in
-    let sizes : Allowed c.args.t c.args.s
-    × (length c.args.beats.now ≡ c.args.t + c.args.s) = sized-parts c.args.t c.args.s c.args.beats.now
-    (sym c.sized.ensures ∙ c.if-not-sized.false) in
-    let still-few : c.loop-at.ups + c.wide-beat.result ≤ largest = let may =
-    goes_parts c.args.t c.loop-at.ups c.loop-at.downs (c.wide-beat.result) (goes) in
-    omega (arith, may.1, sizes.0.0) in
-    let turn = c.loop-at in
-    let beat = c.wide-beat.result in
-    omega (arith, counted-below (grown), N-fits (turn.ups + beat) (turn.downs + (1 - beat)) (still-few))
+    let l = c.loop-next in
+    let sizes = sized-parts _ _ _ (sym c.sized.ensures ∙ c.if-not-sized.false) in
+    let within = turn-within c.skip-rise.result l.next-index l.invariant c.loop-next-test.true c.wide-beat.ensures
+    (sym c.fits.ensures ∙ c.if-not-fits.false) c.growth-number.ensures sizes.0.0 in
+    omega arith
 
-pub loop-at-preserved : goal.loop-at-preserved
-loop-at-preserved c =
-    let inside : c.loop-at.at < length c.args.beats.now = c.loop-at-test.true in
-    let goes : goes_on c.args.t c.loop-at.ups c.loop-at.downs (c.wide-beat.result) ≡ true =
-    sym c.fits.ensures ∙ c.if-not-fits.false in
-    let grown : let beat = c.wide-beat.result in
-    Counted c.args.t c.args.beats.now (c.loop-at.at + 1) (c.loop-at.ups + beat)
-    (c.loop-at.downs + (1 - beat)) (c.loop-at.number + c.growth-number.result) =
-    counted-turn c.loop-at.invariant (inside) (c.wide-beat.result) c.growth-number.result c.wide-beat.ensures
-    (goes) c.growth-number.ensures in
-    grown
+pub loop-next-preserved : goal.loop-next-preserved
+loop-next-preserved c =
+    let l = c.loop-next in
+    turn-counted c.skip-rise.result l.next-index l.invariant c.loop-next-test.true c.wide-beat.ensures
+    (sym c.fits.ensures ∙ c.if-not-fits.false) c.growth-number.ensures
 
-pub returns : goal.returns
-returns c =
-    let sizes : Allowed c.args.t c.args.s
-    × (length c.args.beats.now ≡ c.args.t + c.args.s) = sized-parts c.args.t c.args.s c.args.beats.now
-    (sym c.sized.ensures ∙ c.if-not-sized.false) in
-    let end = c.loop-at-test.false in
-    let size = sizes in
-    ranked c.loop-at.ups c.args.t
-    (λ all. let right = counted-all c.loop-at.invariant (omega arith) all size.1 in (size.0, right.0, right.1))
-    (λ few p. counted-short c.loop-at.invariant (omega arith) few p)
+pub returns-then-ups-t-clause-some : goal.returns-then-ups-t-clause-some
+returns-then-ups-t-clause-some c =
+    let l = c.loop-next in
+    let sized = sym c.sized.ensures ∙ c.if-not-sized.false in
+    end-ranks c.skip-rise.result l.next-index l.invariant c.loop-next-test.false sized c.if-ups-t.true
+
+pub returns-else-ups-t-clause-none : goal.returns-else-ups-t-clause-none
+returns-else-ups-t-clause-none c =
+    let l = c.loop-next in
+    λ a p. end-short c.skip-rise.result l.next-index l.invariant c.loop-next-test.false c.if-ups-t.false p

@@ -1,6 +1,6 @@
 -- `outline::printable` meets its contract: the refusals of the schedule, and then 12. Assumes nothing.
-use mathlib.Core.Path.{◌≡◌, sym, ◌∙◌}
-use Rattle.refusal.specs.declared.Verdict.{Verdict}
+use mathlib.Core.Path.{◌≡◌, sym}
+use Rattle.std.proofs.Common.{Ok}
 use Rattle.refusal.specs.Rows.{judge}
 use Rattle.outline.specs.Answers.{closed_rows}
 use Rattle.outline.proofs.Verdicts.{closed-schedule}
@@ -8,8 +8,8 @@ use Rattle.outline.proofs.printable.Goals as goal
 
 pub fits-requires : goal.fits-requires
 fits-requires c =
-    let closing : judge (closed_rows c.args.t c.args.s c.args.beats.now) ≡ Verdict.Accepted =
-    sym c.closed-verdict.ensures ∙ c.in-Accepted.is in
+    let closing : judge (closed_rows c.args.t c.args.s c.args.beats.now) ≡ Ok tt =
+    sym c.in_ok-closed.ensures in
     let args = c.args in
     let q = closed-schedule args.t args.s args.beats.now (closing) in
     (args.t, q.1, q.2)

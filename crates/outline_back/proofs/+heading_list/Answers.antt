@@ -13,52 +13,58 @@ use Rattle.outline_back.proofs.+heading_list.Goals as goal
 pub heading-bounds-beats-end : goal.heading-bounds-beats-end
 heading-bounds-beats-end t c =
     let same : length c.list-inner.new.beats ≡ length c.args.beats.now =
-    c.list-inner.auto.beats ∙ length-set c.args.beats.now c.args.at 1 in
+    c.list-inner.auto.beats ∙ length-set c.args.beats.now c.args.from.beat 1 in
     omega (arith, same, list-beats c.list-inner.ensures, c.requires.2)
 
 pub heading-returns : goal.heading-returns
 heading-returns t c =
     let same : length c.list-inner.new.beats ≡ length c.args.beats.now =
-    c.list-inner.auto.beats ∙ length-set c.args.beats.now c.args.at 1 in
+    c.list-inner.auto.beats ∙ length-set c.args.beats.now c.args.from.beat 1 in
     let closes : c.list-inner.result.beat < length c.list-inner.new.beats =
     omega (arith, same, list-beats c.list-inner.ensures, c.requires.2) in
     heading-read (omega (arith, c.requires.2)) closes c.list-inner.ensures
 
-pub list-loop-lines-init : goal.list-loop-lines-init
-list-loop-lines-init t c =
-    let args = c.args in (
+pub list-loop-reached-init : goal.list-loop-reached-init
+list-loop-reached-init t c =
+    let args = c.args in
+    let from = args.from in (
       refl,
-      going-none (part args.text.now args.parent args.long) args.text.now args.from args.left
-          args.at args.beats.now c.requires.1,
+      going-none (part args.text.now args.parent.at args.parent.long) args.text.now from.byte from.left from.beat
+          args.beats.now c.requires.1,
     )
 
 -- a turn: the line of the next heading was found
-pub list-heading-past-requires : goal.list-heading-past-requires
-list-heading-past-requires t c =
-    let some : 1 ≤ c.loop-lines.lines = omega (arith, c.if-lines-eq0.false) in
-    let counted = c.loop-lines.invariant.1.counted in
-    let room : c.loop-lines.beat + (c.loop-lines.lines + c.loop-lines.lines) ≤ length c.loop-lines.beats =
-    omega (arith, c.requires.2, c.loop-lines.invariant.0, counted) in
-    let fewer : c.loop-lines.lines ≤ c.args.left =
-    omega (arith, counted, c.loop-lines.invariant.1.written.end) in
-    let ends = line-within c.line_end-end.ensures c.if-end-byte.false in (
+pub list-overflow_sub-number : goal.list-overflow_sub-number
+list-overflow_sub-number t c = omega (arith, line-within c.in-Some.ensures)
+
+pub list-overflow_sub-number-in-loop-reached : goal.list-overflow_sub-number-in-loop-reached
+list-overflow_sub-number-in-loop-reached t c = omega (arith, line-within c.in-Some.ensures)
+
+pub list-heading-reached-requires : goal.list-heading-reached-requires
+list-heading-reached-requires t c =
+    let left = c.loop-reached.reached.left in
+    let some : 1 ≤ left = omega (arith, c.loop-reached-test.true) in
+    let counted = c.loop-reached.invariant.1.counted in
+    let room : c.loop-reached.reached.beat + (left + left) ≤ length c.loop-reached.beats =
+    omega (arith, c.requires.2, c.loop-reached.invariant.0, counted) in
+    let fewer : left ≤ c.args.from.left = omega (arith, counted, c.loop-reached.invariant.1.written.end) in
+    let ends = line-within c.in-Some.ensures in (
       omega (arith, c.decreases, fewer, some),
       (omega (arith, ends), ends.1, omega (arith, room, some)),
     )
 
-pub list-loop-lines-smaller : goal.list-loop-lines-smaller
-list-loop-lines-smaller t c = omega (arith, heading-left c.heading-past.ensures, c.if-lines-eq0.false)
+pub list-loop-reached-smaller : goal.list-loop-reached-smaller
+list-loop-reached-smaller t c = omega (arith, heading-left c.heading-reached.ensures, c.loop-reached-test.true)
 
-pub list-loop-lines-preserved : goal.list-loop-lines-preserved
-list-loop-lines-preserved t c = (
-  c.heading-past.auto.beats ∙ c.loop-lines.invariant.0,
-  going_more (omega (arith, c.requires.2)) c.loop-lines.invariant.1 (omega (arith, c.if-lines-eq0.false))
-      c.line_end-end.ensures c.if-end-byte.false c.heading-past.ensures,
+pub list-loop-reached-preserved : goal.list-loop-reached-preserved
+list-loop-reached-preserved t c = (
+  c.heading-reached.auto.beats ∙ c.loop-reached.invariant.0,
+  going_more (omega (arith, c.requires.2)) c.loop-reached.invariant.1 (omega (arith, c.loop-reached-test.true))
+      c.in-Some.ensures c.heading-reached.ensures,
 )
 
-pub list-returns-then-lines-eq0 : goal.list-returns-then-lines-eq0
-list-returns-then-lines-eq0 t c = going-full c.loop-lines.invariant.1 c.if-lines-eq0.true
+pub list-returns-after-loop-reached : goal.list-returns-after-loop-reached
+list-returns-after-loop-reached t c = going-full c.loop-reached.invariant.1 c.loop-reached-test.false
 
-pub list-returns-then-end-byte : goal.list-returns-then-end-byte
-list-returns-then-end-byte t c =
-    going-stop c.loop-lines.invariant.1 c.line_end-end.ensures c.if-end-byte.true
+pub list-returns-in_default : goal.list-returns-in_default
+list-returns-in_default t c = going-stop c.loop-reached.invariant.1 c.in_default.ensures

@@ -8,16 +8,17 @@ use Rattle.outline_back.proofs.Headings.{Going}
 use Rattle.outline_back.proofs.+heading_list.Given as goal
 
 abbrev pub decreases-heading : goal.decreases-heading
-decreases-heading l = l.left + l.left + 2
+decreases-heading l = l.from.left + l.from.left + 2
 
 abbrev pub decreases-list : goal.decreases-list
-decreases-list l = l.left + l.left + 1
+decreases-list l = l.from.left + l.from.left + 1
 
-abbrev pub invariant-list-loop-lines : goal.invariant-list-loop-lines
-invariant-list-loop-lines l =
+abbrev pub invariant-list-loop-reached : goal.invariant-list-loop-reached
+invariant-list-loop-reached l =
+    let from = l.fn.from in
     (length l.beats ≡ length l.initial.beats)
-    × Going (part l.text l.parent l.long) l.text l.from l.left l.at l.initial.beats l.byte l.beat l.lines l.place
-    l.beats
+    × Going (part l.text l.parent.at l.parent.long) l.text from.byte from.left from.beat l.initial.beats
+    l.reached.byte l.reached.beat l.reached.left l.place l.beats
 
-abbrev pub decreases-list-loop-lines : goal.decreases-list-loop-lines
-decreases-list-loop-lines l = l.lines
+abbrev pub decreases-list-loop-reached : goal.decreases-list-loop-reached
+decreases-list-loop-reached l = l.reached.left

@@ -1,13 +1,6 @@
--- `outline_back::stands` meets its contract. The loop's invariant: the bytes of the piece that were compared stand in
--- the text. The measure is the bytes still to compare. Assumes nothing.
-use Rattle.outline_back.proofs.Standing.{stood-short, stood-other, stood-whole}
+-- `outline_back::stands` meets its contract: what is left of the text starts with the piece. Assumes nothing.
+use Rattle.outline_back.proofs.Standing.{stood-starts}
 use Rattle.outline_back.proofs.stands.Goals as goal
 
-pub returns-then-text-at : goal.returns-then-text-at
-returns-then-text-at c = stood-short c.if-text-at.true
-
-pub returns-then-text-at-2 : goal.returns-then-text-at-2
-returns-then-text-at-2 c = stood-other c.loop-i.i c.loop-i-test.true c.if-text-at-2.true
-
 pub returns : goal.returns
-returns c = stood-whole c.loop-i.invariant c.loop-i-test.false
+returns c = stood-starts c.args.text.now c.args.at c.args.piece.now c.starts_with.result c.starts_with.ensures.value

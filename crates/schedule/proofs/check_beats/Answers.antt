@@ -7,8 +7,8 @@ use borrow.Author.Rules.{rules}
 use lib.IntN.{ℤ, pos, ◌-ℤ◌}
 use lib.ListN.{length}
 use lib.Seq.{take_all}
+use Rattle.std.proofs.Common.{Err}
 use Rattle.refusal.specs.declared.Refusal.TheVariants.{WrongTakeUps}
-use Rattle.refusal.specs.declared.Verdict.{Verdict}
 use Rattle.triangle.specs.Count.{largest, most_beats}
 use Rattle.counts.proofs.Sizes.{counts-allowed}
 use Rattle.schedule.specs.Schedule.{ones, zeros}
@@ -84,7 +84,7 @@ returns-then-played-s c =
     let b = args.beats.now in
     let no-bad = sound in
     let ones-are = hand-ones b c.play-played.result.hand no-bad (in-hand) in
-    ap (λ (z : ℤ). Verdict.Refused (WrongTakeUps z))
+    ap (λ (z : ℤ). Err (WrongTakeUps z))
     (search rules ∙ c.beyond.ensures ∙ ap (λ (o : ℕ). pos o -ℤ pos args.t) ones-are)
     ∙ sym (wrong-take-ups args.t args.s b (sized) no-bad (ended)
     (λ o. c.if-played-s.true (by_hand.1 o)))

@@ -1,59 +1,67 @@
 -- `tree_back::trace` meets its contract. The loop's invariant: the beats so far begin the word of every tree that the
--- tables have, and with what is still to be read they make one. The measure is the beats still to write, and each turn
--- writes one. Assumes nothing.
-use mathlib.Core.Path.{◌≡◌, refl, ◌∙◌, sym}
-use Prim.Native.Nat.{suc, ◌+◌, ◌<◌}
+-- tables have, and with what is still to be read they make one. The stack's last item is the node that waits last.
+-- Assumes nothing.
+use mathlib.Core.Bool.{true≢false}
+use mathlib.Core.List.{reverse}
+use mathlib.Core.Path.{refl, ◌∙◌, sym, ap}
+use Prim.Native.Nat.{◌+◌, ◌<◌}
 use native.Mathlib.Omega.{arith}
-use lib.ListN.{length, get_or, length-set}
+use Rattle.std.proofs.lemmas.List.{nil_from_length}
+use lib.ListN.{length}
+use Rattle.tree.proofs.Planted.{top}
 use Rattle.tree_back.specs.Tracing.{broken}
 use Rattle.tree_back.proofs.Tracing.{trace-start, trace-leaf, trace-node, trace-stuck, trace-other, trace-end, next-so}
 use Rattle.tree_back.proofs.Tracing.{next-not}
+use Rattle.tree_back.proofs.trace.Goals.{then-child-eq0+in-Some, else-child-eq0+else-not-next}
 use Rattle.tree_back.proofs.trace.Goals as goal
 
-pub loop-at-init : goal.loop-at-init
-loop-at-init c =
-    let args = c.args in (
-      refl,
-      rw c.root-child.ensures
-          (trace-start (length args.left.now) args.left.now args.right.now args.parent.now _
-          args.beats.now c.requires.3 (omega (arith, c.requires.0))),
-    )
+pub loop-beat-init : goal.loop-beat-init
+loop-beat-init c =
+    rw (c.new-stack.ensures, c.root-child.ensures)
+    (trace-start (length c.args.left.now) c.args.left.now c.args.right.now c.args.parent.now c.args.beats.now
+    c.requires.3)
 
-pub returns-then-depth-eq0 : goal.returns-then-depth-eq0
-returns-then-depth-eq0 c =
-    let unfinished : c.loop-at.at < ((length c.args.left.now)) + ((length c.args.left.now)) =
-    omega (arith, c.loop-at.invariant.1.long, c.loop-at-test.true) in
-    broken (trace-stuck c.loop-at.invariant.1 c.if-child-eq0.true c.if-depth-eq0.true (unfinished))
-
-pub loop-at-preserved-then-child-eq0 : goal.loop-at-preserved-then-child-eq0
-loop-at-preserved-then-child-eq0 c =
-    let unfinished : c.loop-at.at < ((length c.args.left.now)) + ((length c.args.left.now)) =
-    omega (arith, c.loop-at.invariant.1.long, c.loop-at-test.true) in
-    let here = c.loop-at in
-    (here.invariant.0, trace-leaf here.invariant.1 (unfinished) c.if-child-eq0.true c.if-depth-eq0.false)
+pub returns-in_default : goal.returns-in_default
+returns-in_default c =
+    let here = c.loop-beat in
+    let some : 0 < length here.stack.items → ⊥ = λ h. true≢false (sym (c.in_default.ensures.variant.1 h)) in
+    let waits = ap reverse (nil_from_length here.stack.items (omega (arith, some))) in
+    broken
+    (trace-stuck here.invariant c.if-child-eq0.true waits (omega (arith, here.invariant.long, c.loop-beat-test.true)))
 
 pub returns-then-not-next : goal.returns-then-not-next
 returns-then-not-next c =
-    let here = c.loop-at in
-    let args = c.args in
-    let other = next-not ((length c.args.left.now)) args.parent.now here.row here.child here.own c.requires.2
+    let here = c.loop-beat in
+    let other = next-not (length c.args.left.now) c.args.parent.now here.row here.child here.own c.requires.2
     (sym c.next.ensures ∙ c.if-not-next.true) in
-    broken (trace-other here.invariant.1 c.if-child-eq0.false other)
+    broken (trace-other here.invariant c.if-child-eq0.false other)
 
-pub loop-at-preserved : goal.loop-at-preserved
-loop-at-preserved c =
-    let unfinished : c.loop-at.at < ((length c.args.left.now)) + ((length c.args.left.now)) =
-    omega (arith, c.loop-at.invariant.1.long, c.loop-at-test.true) in
-    let is-next : (c.loop-at.row < (length c.args.left.now)) × (c.loop-at.child ≡ suc c.loop-at.row)
-    × (get_or c.args.parent.now c.loop-at.row 0 ≡ c.loop-at.own) = let here = c.loop-at in
-    next-so ((length c.args.left.now)) c.args.parent.now here.row here.child here.own c.requires.2
-    (sym c.next.ensures ∙ c.if-not-next.false) in
-    let here = c.loop-at in (
-      length-set here.stack here.depth here.child ∙ here.invariant.0,
-      trace-node here.invariant.1 (unfinished) (is-next),
-    )
+pub loop-beat-preserved : goal.loop-beat-preserved
+loop-beat-preserved c =
+    let here = c.loop-beat in
+    let unfinished : here.beat-index < length c.args.left.now + length c.args.left.now =
+    omega (arith, here.invariant.long, c.loop-beat-test.true) in
+    elim c.if-child-eq0.branch [
+      | then-child-eq0+in-Some w ↦
+          rw (w.stack-is, w.row-is, w.own-is, w.child-is, w.beats-is)
+          (trace-leaf here.invariant unfinished w.if-child-eq0.true w.in-Some.node (reverse w.pop.new.self.items)
+          (ap reverse w.in-Some.ensures.items ∙ top w.pop.new.self.items w.in-Some.node))
+      | else-child-eq0+else-not-next w ↦
+          let inner = next-so (length c.args.left.now) c.args.parent.now here.row here.child here.own c.requires.2
+          (sym w.next.ensures ∙ w.if-not-next.false) in
+          rw (
+            w.stack-is,
+            w.row-is,
+            w.own-is,
+            w.child-is,
+            w.beats-is,
+            w.push.ensures.items,
+            top here.stack.items here.child,
+          )
+          (trace-node here.invariant unfinished inner)
+    ]
 
 pub returns : goal.returns
 returns c =
-    trace-end c.loop-at.invariant.1 (omega (arith, c.loop-at-test.false, c.loop-at.invariant.1.long)) refl
+    trace-end c.loop-beat.invariant (omega (arith, c.loop-beat-test.false, c.loop-beat.invariant.long)) refl
     c.requires.1 c.requires.2

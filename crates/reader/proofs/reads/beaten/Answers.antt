@@ -1,31 +1,40 @@
 -- `reads::beaten` meets its contract: L is wrong for the kind, or the packed beats decide. Assumes nothing.
-use mathlib.Core.Path.{◌≡◌, ap}
-use Prim.Native.Nat.{ℕ, ◌+◌, ◌-◌, ◌≤◌}
+use Prim.Native.Nat.{◌≤◌}
 use native.Mathlib.Omega.{arith}
-use lib.ListN.{length, take, drop}
-use Rattle.record.specs.Record.{long, longest}
-use Rattle.reader.proofs.Heads.{whole_long}
-use Rattle.reader.proofs.Answering.{beaten-answer, beaten-left}
+use Rattle.std.proofs.lemmas.Result.{err_from_is_err_and}
+use Rattle.record.specs.Record.{long}
+use Rattle.reader.proofs.Answering.{beaten-answer, beaten-left, body_taken}
+use Rattle.reader.proofs.Verdicts.{ordered-given, ordered-refused}
 use Rattle.reader.proofs.reads.beaten.Goals as goal
 
 pub returns : goal.returns
 returns c =
-    let whole : (c.args.long ≡ long (c.args.src.now)) × (long (c.args.src.now) ≤ longest)
-    × (2 + long (c.args.src.now) ≤ length (c.args.src.now)) = let here =
-    whole_long (c.args.src.now) c.requires.2.here in (c.requires.2.said, here.0, here.1) in
-    let reaches : ((c.args.at) ≤ long (c.args.src.now)) × ((c.args.at) + 2 ≤ length (c.args.src.now)) =
-    (omega (arith, whole, c.if-long-at.false), omega (arith, whole, c.if-long-at.false)) in
-    let from = c.args.at + 2 in
-    let size : 2 + c.args.long - from ≡ long (c.args.src.now) - c.args.at =
-    omega (arith, whole, reaches) in
-    let packed = ap (λ (j : ℕ). take j (drop from (c.args.src.now))) size in
-    let ups = c.wide.ensures in
-    let downs = c.wide-2.ensures in
-    let out =
-    c.args.out.now in record {
-      value = beaten-answer (c.args.at) (c.args.src.now) ups downs packed whole.0 reaches.0
-          c.unpacked.ensures.value;
-      out_after =
-          beaten-left (c.args.at) (c.args.src.now) ups downs packed whole.0 reaches.0 out
-          c.unpacked.ensures.out_after;
+    let args = c.args in
+    let src = args.src.now in
+    let whole = c.requires.1 in
+    let reaches : args.at ≤ long src = omega (arith, whole.said, c.if-long-at.false) in
+    let held = body_taken args.at src whole.said reaches in
+    let ups = c.sizes-t.ensures.ups in
+    let downs = c.sizes-t.ensures.downs in
+    record {
+      value = beaten-answer args.at src ups downs held whole.said reaches
+          (ordered-given _ _ _ args.long _ c.in_ok-number.ensures.value);
+      out_after = beaten-left args.at src ups downs held whole.said reaches args.out.now c.unpacked.ensures.out_after;
     }
+
+pub returns-in_err-number : goal.returns-in_err-number
+returns-in_err-number c =
+    let args = c.args in
+    let src = args.src.now in
+    let whole = c.requires.1 in
+    let reaches : args.at ≤ long src = omega (arith, whole.said, c.if-long-at.false) in
+    let held = body_taken args.at src whole.said reaches in
+    let ups = c.sizes-t.ensures.ups in
+    let downs = c.sizes-t.ensures.downs in
+    let p = err_from_is_err_and c.from_residual.result c.from_residual.ensures.1 in
+    rw (p.1, p.2)
+    (record {
+      value = beaten-answer args.at src ups downs held whole.said reaches
+          (ordered-refused _ _ _ args.long _ c.in_err-number.ensures.value);
+      out_after = beaten-left args.at src ups downs held whole.said reaches args.out.now c.unpacked.ensures.out_after;
+    })

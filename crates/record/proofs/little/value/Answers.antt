@@ -1,31 +1,26 @@
--- `little::value` meets its contract. The loop's invariant: the number is that of the bytes from `at` on. The measure
--- is `at`, and each turn takes one. Assumes nothing.
-use Prim.Native.Nat.{◌-◌, ◌<◌}
+-- `little::value` meets its contract. The loop's invariant: the number is that of the bytes behind those that are
+-- left. Assumes nothing.
 use native.Mathlib.Omega.{arith}
-use Rattle.record.proofs.Numerals.{Bytes, valued-start, valued-more, valued-small}
+use Rattle.record.proofs.Numerals.{Bytes, valued-start, valued-more, valued-small, valued-all}
 use Rattle.record.proofs.little.value.Goals as goal
 
-pub loop-at-init : goal.loop-at-init
-loop-at-init c = valued-start c.args.src.now
+pub loop-byte-init : goal.loop-byte-init
+loop-byte-init c = valued-start _ _ (cc)
 
 pub overflow_mul-number : goal.overflow_mul-number
 overflow_mul-number c =
-    let small : c.loop-at.number < 72057594037927936 = let bytes : Bytes c.args.src.now =
-    λ i. omega (arith, c.shared_slice_known-1.given i) in
-    valued-small c.loop-at.invariant bytes c.requires c.loop-at-test.true in
+    let bytes : Bytes c.args.src.now = λ i. omega (arith, c.type_inv.src i) in
+    let small = valued-small c.loop-byte.invariant _ _ c.in-Some.ensures.steps bytes c.requires in
     omega (arith, small)
 
 pub overflow_add-number : goal.overflow_add-number
 overflow_add-number c =
-    let small : c.loop-at.number < 72057594037927936 = let bytes : Bytes c.args.src.now =
-    λ i. omega (arith, c.shared_slice_known-1.given i) in
-    valued-small c.loop-at.invariant bytes c.requires c.loop-at-test.true in
-    omega (
-      arith,
-      small,
-      c.wide.ensures,
-      c.shared_slice_known-in-loop-at-1.given (c.loop-at.at - 1),
-    )
+    let bytes : Bytes c.args.src.now = λ i. omega (arith, c.type_inv.src i) in
+    let small = valued-small c.loop-byte.invariant _ _ c.in-Some.ensures.steps bytes c.requires in
+    omega (arith, small)
 
-pub loop-at-preserved : goal.loop-at-preserved
-loop-at-preserved c = valued-more c.loop-at.invariant c.loop-at-test.true c.wide.result c.wide.ensures
+pub loop-byte-preserved : goal.loop-byte-preserved
+loop-byte-preserved c = rw c.from.ensures (valued-more c.loop-byte.invariant _ _ c.in-Some.ensures.steps)
+
+pub returns : goal.returns
+returns c = valued-all c.loop-byte.invariant c.in-None.ensures.steps.0

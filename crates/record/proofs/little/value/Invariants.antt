@@ -1,10 +1,7 @@
--- `little::value` meets its contract. The loop's invariant: the number is that of the bytes from `at` on. The measure
--- is `at`, and each turn takes one. Assumes nothing.
+-- `little::value` meets its contract. The loop's invariant: the number is that of the bytes behind those that are
+-- left. Assumes nothing.
 use Rattle.record.proofs.Numerals.{Valued}
 use Rattle.record.proofs.little.value.Given as goal
 
-abbrev pub invariant-loop-at : goal.invariant-loop-at
-invariant-loop-at l = Valued l.src l.at l.number
-
-abbrev pub decreases-loop-at : goal.decreases-loop-at
-decreases-loop-at l = l.at
+abbrev pub invariant-loop-byte : goal.invariant-loop-byte
+invariant-loop-byte l = Valued l.src l.byte-iterator.iter.rest.now l.number

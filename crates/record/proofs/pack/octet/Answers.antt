@@ -1,5 +1,5 @@
--- `pack::octet` meets its contract. The loop's invariant: the byte is what the beats so far spell. The measure is the
--- beats left of eight. Assumes nothing.
+-- `pack::octet` meets its contract. The loop's invariant: the byte is what the beats so far spell. Assumes
+-- nothing.
 use Prim.Native.Nat.{◌+◌}
 use native.Mathlib.Omega.{arith}
 use Rattle.record.proofs.Packing.{octet-start, octet-small, octet-more}

@@ -6,7 +6,7 @@ use Prim.Native.Nat.{◌+◌, ◌-◌, ◌≤◌, ◌<◌}
 use native.Mathlib.Omega.{arith}
 use lib.ListN.{length, take, drop, length-drop}
 use lib.Seq.{length-take-le}
-use Rattle.refusal.specs.declared.Verdict.{Verdict}
+use Rattle.std.proofs.Common.{Ok, Err}
 use Rattle.schedule.specs.Schedule.{Schedule}
 use Rattle.schedule.specs.Check.{checked}
 use Rattle.schedule.proofs.Theorems.{accepted-schedule}
@@ -16,8 +16,7 @@ use Rattle.circle.proofs.Forms.{refused-so}
 use Rattle.record.specs.declared.layout.Layout.{Layout}
 use Rattle.record.specs.Bytes.{bytes_for, packed}
 use Rattle.record.specs.Record.{record_in, known_answer, known_left, written}
-use Rattle.refusal.specs.declared.Answer.{Answer}
-use Rattle.refusal.specs.Answer.{answer}
+use Rattle.refusal.specs.Answer.{Verdict, answer}
 use Rattle.refusal.specs.declared.Refusal.TheVariants.{NoRoom}
 use Rattle.record.proofs.Packing.{all-beats}
 use Rattle.record.proofs.Writing.{packed-size, record-made, beaten-size, write-short, write-taken}
@@ -25,8 +24,8 @@ use Rattle.record.proofs.writes.beaten.Goals as goal
 
 pub returns-then-out-past : goal.returns-then-out-past
 returns-then-out-past c =
-    let taken : checked (c.args.t) (c.args.s) (c.args.beats.now) ≡ Verdict.Accepted =
-    sym c.check-verdict.ensures ∙ c.in-Accepted.is in
+    let taken : checked (c.args.t) (c.args.s) (c.args.beats.now) ≡ Ok tt =
+    sym c.in_ok-check.ensures in
     let size : length ((record_in (Layout.Beaten c.args.at) c.args.kind c.args.t c.args.s c.args.beats.now)) ≡ 6 +
     bytes_for (length (c.args.beats.now)) =
     beaten-size (c.args.at) c.args.kind (c.args.t) (c.args.s) (c.args.beats.now) in
@@ -35,15 +34,15 @@ returns-then-out-past c =
     ((record_in (Layout.Beaten c.args.at) c.args.kind c.args.t c.args.s c.args.beats.now)) (c.args.out.now) (taken)
     (omega (arith, size, c.bytes_for.ensures, c.requires, c.if-out-past.true)) in
     let made = record_in (Layout.Beaten c.args.at) c.args.kind c.args.t c.args.s c.args.beats.now in
-    let both : (Answer.Refused NoRoom ≡ known_answer c.args.t c.args.s c.args.beats.now made c.args.out.now)
+    let both : (Err NoRoom ≡ known_answer c.args.t c.args.s c.args.beats.now made c.args.out.now)
     × (c.args.out.now ≡ known_left c.args.t c.args.s c.args.beats.now made c.args.out.now) =
     refused-so refused _ _ (c.args.out.now) in
     record { value = both.0; out_after = both.1 }
 
 pub pack-requires : goal.pack-requires
 pack-requires c =
-    let taken : checked (c.args.t) (c.args.s) (c.args.beats.now) ≡ Verdict.Accepted =
-    sym c.check-verdict.ensures ∙ c.in-Accepted.is in
+    let taken : checked (c.args.t) (c.args.s) (c.args.beats.now) ≡ Ok tt =
+    sym c.in_ok-check.ensures in
     let form : Allowed (c.args.t) (c.args.s) × Schedule (c.args.t) (c.args.s) (c.args.beats.now) =
     accepted-schedule (c.args.t) (c.args.s) (c.args.beats.now) (taken) in
     let few : ((c.args.t) < 256) × ((c.args.s) < 256) × (length (c.args.beats.now) ≤ most_beats) = (
@@ -62,10 +61,10 @@ pack-requires c =
       omega (arith, room, c.bytes_for.ensures),
     )
 
-pub returns-else-out-past : goal.returns-else-out-past
-returns-else-out-past c =
-    let taken : checked (c.args.t) (c.args.s) (c.args.beats.now) ≡ Verdict.Accepted =
-    sym c.check-verdict.ensures ∙ c.in-Accepted.is in
+pub returns : goal.returns
+returns c =
+    let taken : checked (c.args.t) (c.args.s) (c.args.beats.now) ≡ Ok tt =
+    sym c.in_ok-check.ensures in
     let size : length ((record_in (Layout.Beaten c.args.at) c.args.kind c.args.t c.args.s c.args.beats.now)) ≡ 6 +
     bytes_for (length (c.args.beats.now)) =
     beaten-size (c.args.at) c.args.kind (c.args.t) (c.args.s) (c.args.beats.now) in
@@ -87,6 +86,6 @@ returns-else-out-past c =
     (c.args.out.now) x c.pack.new.out c.head.ensures c.pack.ensures (omega (arith, exact))
     (omega (arith, c.requires)) (omega (arith, exact)) in
     record {
-      value = ap Answer.Value long-made ∙ ap (λ (v : Verdict). answer v (length made)) (sym accepted);
+      value = ap Ok long-made ∙ ap (λ (v : Verdict). answer v (length made)) (sym accepted);
       out_after = bytes-made ∙ ap (λ (v : Verdict). written v made c.args.out.now) (sym accepted);
     }

@@ -6,7 +6,7 @@ use Prim.Native.Nat.{ℕ, ◌+◌, ◌-◌}
 use native.Mathlib.Omega.{arith}
 use lib.ListN.{length, take, drop, length-drop}
 use lib.Seq.{length-take-le}
-use Rattle.refusal.specs.declared.Verdict.{Verdict}
+use Rattle.std.proofs.Common.{Ok, Err}
 use Rattle.refusal.proofs.Theorems.{answer-value}
 use Rattle.schedule.specs.Check.{checked}
 use Rattle.circle.proofs.Forms.{refused-so}
@@ -15,8 +15,7 @@ use Rattle.record.specs.declared.layout.Layout.{Layout}
 use Rattle.record.specs.declared.layout.Numbering.{Numbering}
 use Rattle.record.specs.Bytes.{low_first}
 use Rattle.record.specs.Record.{record_in, known_answer, known_left, written}
-use Rattle.refusal.specs.declared.Answer.{Answer}
-use Rattle.refusal.specs.Answer.{answer}
+use Rattle.refusal.specs.Answer.{Verdict, answer}
 use Rattle.refusal.specs.declared.Refusal.TheVariants.{NoRoom}
 use Rattle.record.proofs.Numerals.{length-low}
 use Rattle.record.proofs.Writing.{record-made, numbered-size, write-short, write-taken}
@@ -24,11 +23,11 @@ use Rattle.record.proofs.writes.numbered.Goals as goal
 
 pub returns-then-out-end : goal.returns-then-out-end
 returns-then-out-end c =
-    let answered : (checked (c.args.t) (c.args.s) (c.args.beats.now) ≡ Verdict.Accepted)
-    × (c.in-Value.number ≡ number_of (c.args.t) (c.args.s) (c.args.beats.now)) =
+    let answered : (checked (c.args.t) (c.args.s) (c.args.beats.now) ≡ Ok tt)
+    × (c.in_ok-number.number ≡ number_of (c.args.t) (c.args.s) (c.args.beats.now)) =
     answer-value (checked (c.args.t) (c.args.s) (c.args.beats.now))
     (number_of (c.args.t) (c.args.s) (c.args.beats.now))
-    (sym c.number-answer.ensures ∙ c.in-Value.is) in
+    (sym c.in_ok-number.ensures) in
     let size : length ((record_in ((Layout.Numbered c.args.at Numbering.Catalogue)) c.args.kind c.args.t c.args.s
     c.args.beats.now)) ≡ 14 =
     numbered-size (c.args.at) c.args.kind (c.args.t) (c.args.s) (c.args.beats.now) Numbering.Catalogue in
@@ -39,18 +38,18 @@ returns-then-out-end c =
     (omega (arith, size, c.requires, c.if-out-end.true)) in
     let made =
     record_in (Layout.Numbered c.args.at Numbering.Catalogue) c.args.kind c.args.t c.args.s c.args.beats.now in
-    let both : (Answer.Refused NoRoom ≡ known_answer c.args.t c.args.s c.args.beats.now made c.args.out.now)
+    let both : (Err NoRoom ≡ known_answer c.args.t c.args.s c.args.beats.now made c.args.out.now)
     × (c.args.out.now ≡ known_left c.args.t c.args.s c.args.beats.now made c.args.out.now) =
     refused-so refused _ _ (c.args.out.now) in
     record { value = both.0; out_after = both.1 }
 
-pub returns-else-out-end : goal.returns-else-out-end
-returns-else-out-end c =
-    let answered : (checked (c.args.t) (c.args.s) (c.args.beats.now) ≡ Verdict.Accepted)
-    × (c.in-Value.number ≡ number_of (c.args.t) (c.args.s) (c.args.beats.now)) =
+pub returns : goal.returns
+returns c =
+    let answered : (checked (c.args.t) (c.args.s) (c.args.beats.now) ≡ Ok tt)
+    × (c.in_ok-number.number ≡ number_of (c.args.t) (c.args.s) (c.args.beats.now)) =
     answer-value (checked (c.args.t) (c.args.s) (c.args.beats.now))
     (number_of (c.args.t) (c.args.s) (c.args.beats.now))
-    (sym c.number-answer.ensures ∙ c.in-Value.is) in
+    (sym c.in_ok-number.ensures) in
     let size : length ((record_in ((Layout.Numbered c.args.at Numbering.Catalogue)) c.args.kind c.args.t c.args.s
     c.args.beats.now)) ≡ 14 =
     numbered-size (c.args.at) c.args.kind (c.args.t) (c.args.s) (c.args.beats.now) Numbering.Catalogue in
@@ -68,7 +67,7 @@ returns-else-out-end c =
     length-take-le n (drop from x) (omega (arith, length-drop from x, kept, c.if-out-end.false)) ∙ omega arith in
     let body =
     c.spell.ensures
-    ∙ ap (λ (j : ℕ). low_first j c.in-Value.number) eight
+    ∙ ap (λ (j : ℕ). low_first j c.in_ok-number.number) eight
     ∙ ap (low_first 8) answered.1 in
     let made =
     record_in (Layout.Numbered c.args.at Numbering.Catalogue) c.args.kind c.args.t c.args.s c.args.beats.now in
@@ -81,6 +80,6 @@ returns-else-out-end c =
     c.spell.new.out c.head.ensures body (omega (arith, long)) (omega (arith, c.requires))
     (omega (arith, long)) in
     record {
-      value = ap Answer.Value long-made ∙ ap (λ (v : Verdict). answer v (length made)) (sym accepted);
+      value = ap Ok long-made ∙ ap (λ (v : Verdict). answer v (length made)) (sym accepted);
       out_after = bytes-made ∙ ap (λ (v : Verdict). written v made c.args.out.now) (sym accepted);
     }
