@@ -219,7 +219,7 @@ TREE, TREES, LINES = "crates/tree/specs/Tree.antt", "crates/tree/proofs/Cases.an
 HEADINGS = "crates/outline/specs/Outline.antt"
 EDIT, REFUSED = "accepted_has_a_place", "refused, as it must be"  # of the crate `refusal`
 ABOUT = f"rt: must-fail refusal/{EDIT}.edit: "
-ANOTHER = "./proofs/value/Answers.antt:1:1: error: `returns`: the two types differ"
+ANOTHER = "./proofs/value/Answers.antt:1:1: error: `another`: the two types differ"
 OF_VERDICT = line_of("crates/refusal/src/lib.rt", "why.number()")  # a line of Result::refusal
 IN_CODE = f"note: src/lib.rt:{OF_VERDICT}:9: it is not proved that it holds (`returns`)"
 SHAM, LOG, WHOLE = f"crates/refusal/must-fail/{EDIT}.edit", "target/ci.log", "target/whole.log"
@@ -360,7 +360,7 @@ BREAKS = {
         Break("no log", LOG, gone, (LOG, "rt must-fail", "rt ci")),
         Break("an edit that is not tried", LOG, drop(ABOUT), (EDIT, "nothing, by the log")),
         Break("a refusal without a fact", LOG, retold(f"{REFUSED}: what"), (EDIT, "as it must be: what")),
-        Break("a refusal of another need", LOG, retold(f"{REFUSED}: {ANOTHER}"), (EDIT, "`value`: `returns`")),
+        Break("a refusal of another need", LOG, retold(f"{REFUSED}: {ANOTHER}"), (EDIT, "`value`: `another`")),
         Break("a refusal in the code", LOG, retold(f"{REFUSED}: {IN_CODE}"), (EDIT, "`Result::refusal`: `returns`")),
         Break("one cut short", LOG, retold(f"{REFUSED}: {IN_CODE[:-4]}"), (EDIT, "`Result::refusal`: `retur..")),
         Break("a refusal for names alone", LOG, retold(f"{REFUSED} (only because"), (EDIT, "only because")),
@@ -368,9 +368,9 @@ BREAKS = {
         Break("a bad edit", LOG, retold("BAD EDIT: why"), (EDIT, "BAD EDIT")),
         Break("an edit that is proved", LOG, retold("NOT REFUSED: why"), (EDIT, "NOT REFUSED")),
         Break("no log of the edits tried whole", WHOLE, gone, (WHOLE, "host/try_whole.py")),
-        Break("an edit not tried whole", WHOLE, swap(f"{SEVERAL}\n", "refusal/another\n"), (SEVERAL, "`Result::refusal`: `returns-then-is_ok`, and")),
-        Break("a wrong program of several refused at another fact", WHOLE, swap(f"{SEVERAL}\n", f"{SEVERAL}\n{ANOTHER}\n"), (SEVERAL, "at `value`: `returns`")),
-        Break("another function refused too", WHOLE, swap(f"{SEVERAL}\n", f"{SEVERAL}\n{BY_ANOTHER}\n"), (SEVERAL, "`Refusal::place`: `returns`")),
+        Break("an edit not tried whole", WHOLE, swap(f"{SEVERAL}\n", "refusal/another\n"), (SEVERAL, "`value`: `returns`, and")),
+        Break("a wrong program of several refused at another fact", WHOLE, swap(f"{SEVERAL}\n", f"{SEVERAL}\n{ANOTHER}\n"), (SEVERAL, "at `value`: `another`")),
+        Break("another function refused too", WHOLE, swap(f"{SEVERAL}\n", f"{SEVERAL}\n{BY_ANOTHER}\n"), (SEVERAL, "`Refusal::place`: `another`")),
         Break("one of several refused for a name", WHOLE, swap(f"{SEVERAL}\n", f"{SEVERAL}\n{FOR_A_NAME}\n"), (SEVERAL, "a name that the edit took")),
         Break("one of several refused by a limit", WHOLE, swap(f"{SEVERAL}\n", f"{SEVERAL}\n{BY_A_LIMIT}\n"), (SEVERAL, "a limit of the prover")),
         Break("a sham deleted", SHAMS, drop("| P6b "), (SHAMS, "P6b")),
