@@ -2,7 +2,7 @@
 // contracts cite specs/Lent. [P1]
 #![tactic(auto)]
 
-ghost use Rattle.std.specs.Prelude.{◌≡◌, ◌≤◌};
+ghost use Rattle.std.specs.Prelude.{[], ◌≡◌, ◌≤◌};
 ghost use Rattle.triangle.specs.Count.{N, largest};
 ghost use Rattle.lookup.specs.Lent.{Counts};
 
@@ -19,12 +19,15 @@ impl<'a> Table<'a> {
     // Rows that the caller keeps from call to call. [P13]
     pub fn lent(rows: &'a [[u64; SIDE]]) -> Table<'a>
         requires { Counts rows.now }
+        ensures { result.rows.now ≡ rows.now }
     {
         Table { rows }
     }
 
     // No rows: what a call lends that keeps none.
-    pub fn none() -> Table<'a> {
+    pub fn none() -> Table<'a>
+        ensures { result.rows.now ≡ [] }
+    {
         Table { rows: &[] }
     }
 
