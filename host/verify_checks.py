@@ -235,6 +235,7 @@ EXPLAIN_PAGE, EXPLAINING, OUTLINE_PAGE = "host/man/explain.1", "host/explaining.
 CHANGES, BEFORE = "changes(beats, own.after)", "form_of(t, s, (number_of(t, s, beats) - 1) % forms(t, s))"  # of the oracle; and the form before
 PRINTED, FROM_RIGHT = "in numbers_of(beats)", "in numbers_of([1 - beat for beat in beats[::-1]])"  # of the oracle
 LOOK, LOOKUP, STREAM = "| `lookup` | `Table::look` |", "crates/lookup/src/lib.rt", "crates/stream/src/lib.rt"
+STORE, CIRCLE = "| `circle_back` | `Back::store` |", "crates/circle/src/lib.rt"  # of an impl of a trait of another crate; and the trait
 GROUND, WALK, ORACLE, PACKING = "crates/cases_ground/stdout", "crates/cases_walk/stdout", "host/oracle.py", "host/packing.py"
 NUMBER, RECORD, OUTLINES = (f"crates/cases_{of}/stdout" for of in ("number", "record", "outline"))
 VERIFY_CASES, INDEPENDENT, STDIO = "host/verify_cases.py", "host/independent.c", "bench/packing_stdio.c"
@@ -351,6 +352,10 @@ BREAKS = {
         Break("a row without a column", REQUIRES, swap(f"{LOOK} public |", LOOK), ("5 columns", "`Table::look`")),
         Break("a row that does not say why", REQUIRES, swap("| it copies them |", "| |"), ("none is empty",)),
         Break("a public one said to be private", REQUIRES, swap(f"{LOOK} public |", f"{LOOK} private |"), ("look` of `lookup` is public",)),
+        Break("a trait's said to be private", REQUIRES, swap("`Way::plan` | public", "`Way::plan` | private"), ("`Way::plan` of `circle` is public",)),
+        Break("an impl's said to be private", REQUIRES, swap(f"{STORE} public |", f"{STORE} private |"), ("`Back::store` of `circle_back` is public",)),
+        Break("a row of an impl deleted", REQUIRES, drop(STORE), ("Back::store of circle_back has a `requires` and no row",)),
+        Break("a trait no longer public", CIRCLE, swap("\npub trait Way", "\ntrait Way"), ("`Way::store` of `circle` is private", "`On::plan` of")),
         Break("a private one said to be public", REQUIRES, swap("`reads::kind` | private", "`reads::kind` | public"), ("is private",)),
         Break("one that is no longer lent on", STREAM, drop("pub use moving::exchange;"), ("`moving::exchange` of `stream` is private",)),
         Break("a `requires` gone", LOOKUP, drop("        requires {", 2), ("`lookup` has no function `Table::look` with a `requires`",)),

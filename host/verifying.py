@@ -110,9 +110,9 @@ def defined(path):
     return names.union(*(re.findall(member, body, re.M) for body in re.findall(block, text, re.M)))
 
 
-# The functions of a source file.
+# The functions of a source file. They stand by themselves, in an impl of a type, or in a trait.
 
-TYPE = r"^impl\b(?:<.*>)? (?P<trait>.* for )?(?P<type>\w+)\b.*\{$"
+TYPE = r"^(?:impl\b(?:<.*>)? (?:(?P<trait>.*) for )?|(?P<open>pub )?(?P<law>trait) )(?P<type>\w+)\b.*\{$"
 END = r"^(?P<end>\})"
 FUNCTION = r"^ *(?P<pub>pub )?(?:unsafe )?(?:extern \"C\" )?fn (?P<name>\w+)"
 NAMED = re.compile("|".join((TYPE, END, FUNCTION)), re.M)
@@ -125,7 +125,7 @@ def module_of(path):
 
 
 def function_at(text, path, line):
-    """The function, by its module and type, that a line of a source file is in; its text, and its path in the crate. A line
+    """The function, by its module and its type or trait, that a line of a source file is in; its text, and its path in the crate. A line
     of attributes or comments is in the function that it stands before."""
     owner, function = None, None
     lines = text.split("\n")

@@ -3,7 +3,7 @@
 -- in the crate `demands`. Assumes nothing.
 use mathlib.Core.Bool.{true, false}
 use mathlib.Core.List.{List, [], ◌∷◌}
-use mathlib.Core.Path.{◌≡◌, refl, ap, ◌∙◌}
+use mathlib.Core.Path.{◌≡◌, refl, ap, sym, ◌∙◌}
 use Prim.Native.Nat.{ℕ, zero, suc}
 use native.Mathlib.Omega.{arith}
 use lib.ListN.{get_or}
@@ -23,6 +23,7 @@ use Rattle.circle.specs.Found.{ups, downs, Found, flat, rising}
 use Rattle.circle.specs.Plan.{Form, stored, applied, changes, Inside, Leads, Plans}
 use Rattle.circle.specs.Way.{Goes, goes_on}
 use Rattle.circle.specs.Answers.{run_rows, next_answer, next_left, run_answer, run_left}
+use Rattle.circle.proofs.Stores.{found_one}
 use Rattle.circle.proofs.Circle.{steps-schedule}
 use Rattle.circle.proofs.Theorems.{circle}
 use Rattle.circle.proofs.Backwards.{previous-precedes}
@@ -398,6 +399,9 @@ found-not-1 (flat (suc (suc p)) q e f g) = omega arith
 found-not-1 (rising zero q z e f g) = omega (arith, ap (λ (l : List ℕ). get_or l 1 0) e)
 found-not-1 (rising (suc p) q z e f g) = omega arith
 
+found-not-4 : Found (1 ∷ 1 ∷ 0 ∷ 1 ∷ 0 ∷ []) 2 4 → ⊥
+found-not-4 f = omega (arith, (found_one found-2 f).1)
+
 -- what is stored on, and back
 stored-on : stored 1 0 (Move.Swaps 3 1) (1 ∷ 1 ∷ 1 ∷ 0 ∷ 0 ∷ []) ≡ 1 ∷ 0 ∷ 1 ∷ 1 ∷ 0 ∷ []
 stored-on = refl
@@ -411,10 +415,30 @@ leads-11010 = plans-11010
 leads-elsewhere : Leads next applied (1 ∷ 1 ∷ 0 ∷ 1 ∷ 0 ∷ []) (Move.Dips 3 3) → ⊥
 leads-elsewhere = makes-10001
 
--- the walk on goes by steps; standing still does not
+leads-miscounted : Leads next applied (1 ∷ 1 ∷ 1 ∷ 0 ∷ 0 ∷ []) (Move.Dips 3 1) → ⊥
+leads-miscounted = counts-4
+
+leads-past-the-end : Leads next applied (1 ∷ 1 ∷ []) (Move.Swaps 2 1) → ⊥
+leads-past-the-end = past_the_end
+
+-- the walk on goes by steps; not so one that begins a step late, work that begins with a beat, standing still, and work
+-- that adds nothing
 goes-on : Goes next steps worked
 goes-on = goes_on
+
+a-step-late : Goes next (λ k b. steps (suc k) b) worked → ⊥
+unfolding steps
+a-step-late g =
+    omega
+    (arith, ap (λ (l : List ℕ). get_or l 1 0) (sym next-10101 ∙ (g.starts (1 ∷ 0 ∷ 1 ∷ 0 ∷ 1 ∷ [])).0))
+
+a-beat-before : Goes next steps (λ k b. suc (worked k b)) → ⊥
+a-beat-before g = omega (arith, (g.starts []).1)
 
 standing-still : Goes next (λ k b. b) (λ k b. 0) → ⊥
 standing-still g =
     omega (arith, ap (λ (l : List ℕ). get_or l 1 0) (g.goes 0 (1 ∷ 0 ∷ 1 ∷ 0 ∷ 1 ∷ []) ∙ next-10101))
+
+nothing-added : Goes next steps (λ k b. 0) → ⊥
+unfolding shift found has01 moves_next next first_from every ones zeros is_schedule steps changed
+nothing-added g = omega (arith, g.adds 0 (1 ∷ 1 ∷ 1 ∷ 0 ∷ 0 ∷ []))

@@ -1,5 +1,7 @@
 -- The step by stores: y is the leftmost 0, x the 1 of the leftmost 0 followed by 1.
 --     find, found-order         what the two scans of the step find, by the shape
+--     found_one                 no second two places of a schedule are found [P11]
+--     led_one                   two moves that lead the same way store the same, and change as many beats [P11]
 --     set-ups, set-downs        a store behind ones, or behind zeros
 --     behind                    the beat after the found 1, by the shape
 --     plan-stays, plan-alone, plan-turns, plan-swaps, plan-dips     each plan of the code is the rule's next form
@@ -17,7 +19,7 @@ use Rattle.schedule.proofs.Skipping.{Skips, skipped-skips, skips-unique}
 use Rattle.circle.specs.declared.Move.{Move}
 use Rattle.circle.specs.Step.{next}
 use Rattle.circle.specs.Walk.{changed}
-use Rattle.circle.specs.Plan.{Form, Inside, Plans, applied, changes}
+use Rattle.circle.specs.Plan.{Form, Inside, Leads, Plans, applied, changes}
 pub use Rattle.circle.specs.Found.{Found, flat, rising}
 use Rattle.circle.proofs.Shape.{
   ups,
@@ -88,6 +90,28 @@ find {b} {y} {x} f ey ex =
 pub found-order : {b : List ℕ} {y x : ℕ} → Found b y x → (y ≤ x) × (x ≤ length b)
 found-order (flat p q e ey ex) = (omega arith, omega (arith, ap length e, shape-length p q []))
 found-order (rising p q z e ey ex) = (omega arith, omega (arith, ap length e, shape-length (suc p) (suc q) (1 ∷ z)))
+
+-- what is found is what the scans find, which is one place each
+found-first : {b : List ℕ} {y x : ℕ} → Found b y x → Skips b 0 1 y
+found-first (flat p q e ey ex) = rw (e, ey) (skips-ups p (downs q []) (head q))
+  where
+    head : (q : ℕ) → 0 < length (downs q []) → get_or (downs q []) 0 0 ≢ 1
+    head zero h e = omega arith
+    head (suc q) h e = omega arith
+found-first (rising p q z e ey ex) = rw (e, ey) (skips-ups (suc p) (downs (suc q) (1 ∷ z)) (λ h e. omega arith))
+
+found-second : {b : List ℕ} {y x : ℕ} → Found b y x → Skips b y 0 x
+found-second (flat p q e ey ex) = rw (e, ey, ex) (skips-downs p q [] (λ h. absurd (omega arith)))
+found-second (rising p q z e ey ex) = rw (e, ey, ex) (skips-downs (suc p) (suc q) (1 ∷ z) (λ h e. omega arith))
+
+pub found_one : {b : List ℕ} {y x v u : ℕ} → Found b y x → Found b v u → (y ≡ v) × (x ≡ u)
+found_one {b} {y} {x} {v} {u} f g =
+    let same = skips-unique (found-first f) (found-first g) in
+    (same, skips-unique (subst (λ (k : ℕ). Skips b k 0 x) same (found-second f)) (found-second g))
+
+pub led_one : {step : List ℕ → List ℕ} {stores : Move → List ℕ → List ℕ} {b : List ℕ} {m n : Move}
+    → Leads step stores b m → Leads step stores b n → (stores m b ≡ stores n b) × (changes m ≡ changes n)
+led_one l r = (l.makes ∙ sym r.makes, l.counts ∙ sym r.counts)
 
 -- stores, by the shape
 pub set-ups : (p i k : ℕ) (c : List ℕ) (v : ℕ) → k ≡ p + i → set (ups p c) k v ≡ ups p (set c i v)

@@ -1,4 +1,4 @@
--- The definition of specs/ on small inputs: pairs that come next, and one that does not. Assumes nothing.
+-- The definition of specs/ on small inputs: pairs that come next, and two that do not. Assumes nothing.
 use mathlib.Core.Path.{refl}
 use native.Mathlib.Omega.{arith}
 use Rattle.show.specs.Order.{Next}
@@ -13,3 +13,7 @@ next-33 = (λ h. omega (arith, h), λ h. (refl, refl))
 -- after (3,0) the 3 has more pairs
 not-next-30 : Next 3 0 4 0 → ⊥
 not-next-30 n = omega (arith, n.0 (omega arith))
+
+-- after (3,3) the 3 has none
+not-next-33 : Next 3 3 3 4 → ⊥
+not-next-33 n = omega (arith, n.1 (omega arith))
