@@ -1,4 +1,4 @@
--- What a step stores, for the contracts of the private functions that find and make it. proofs/Stores.antt shows that a
+-- What a step stores, for the contracts of a move and of what a way finds and makes. proofs/Stores.antt shows that a
 -- plan is the rule's next form, so nothing here has to be believed. Definitions only.
 --     Form b            b is a schedule of its own counts
 --     stored up down    the schedule after the stores of a move: a swap puts up at y and down at x; a dip also puts
