@@ -31,16 +31,22 @@ fn bad_beat(beats: &[u8]) -> usize
 }
 
 // The first place from `from` on whose beat is another, or the number of beats where there is none; `from`
-// itself where it is past the end. [P13]
+// itself where it is past the end. It breaks with the place: after a `for`, a `while` or a search by `position` the
+// compiler no longer sees that a step of an empty schedule does nothing, and a run back of k steps takes k turns there,
+// where it takes none. [P13]
 pub fn skip(beats: &[u8], from: usize, beat: u8) -> usize
     ensures { result ≡ skipped beats.now from beat }
 {
-    for at in from..beats.len() {
-        if beats[at] != beat {
-            return at;
+    let mut at = from;
+    loop {
+        if beats.len() <= at {
+            break at;
         }
+        if beats[at] != beat {
+            break at;
+        }
+        at += 1;
     }
-    beats.len().max(from)
 }
 
 // How far a schedule was played, and how many tasks are in hand there.
