@@ -226,6 +226,7 @@ SHAM, LOG, WHOLE = f"crates/refusal/must-fail/{EDIT}.edit", "target/ci.log", "ta
 SEVERAL = "refusal/accepted_calls_misreported"  # an edit of two wrong programs: of `Result::refusal`, and of `value`
 BY_ANOTHER = ANOTHER.replace("proofs/value", "proofs/Refusal/place")
 FOR_A_NAME, BY_A_LIMIT = (ANOTHER.replace("the two types differ", what) for what in ("it has no field `value`", "antt ran out of stack"))
+BY_A_NAME = "a name that the edit took away"  # what a comment may not say
 HEADER, ARCHIVE, README = "include/ghanveltri.h", "target/host/libghanveltri.a", "README.md"
 EXPORTS, CALLER = "crates/ghanveltri_c/src/lib.rt", "host/lists.c"  # the passes that are exported, and the C that calls them
 BYTES, ENDED = "const uint8_t *src, size_t length,", "bool ended,"  # what a pass is given, in C
@@ -381,6 +382,7 @@ BREAKS = {
         Break("a sham deleted", SHAMS, drop("| P6b "), (SHAMS, "P6b")),
         Break("another count", SHAMS, swap(" wrong programs in ", "0 wrong programs in "), (SHAMS, "it says")),
         Break("another fact", SHAM, swap("`accepted-place`.", "`accepted`."), (EDIT, "refused at `proofs/Cases`: `accepted-place`")),
+        Break("an edit that says that it took a name away", SHAM, swap("`accepted-place`.", f"`{BY_A_NAME}`."), (EDIT, f"`{BY_A_NAME}`, which shows")),
         Break("an edit that says no fact", SHAM, drop("# Refused at"), (f"{EDIT}: a wrong program says",)),
         Break("an edit that says nothing else", SHAM, drop("# An accepted call"), (f"{EDIT}: a wrong program says",)),
         Break("an edit gone", SHAM, gone, (SHAMS, "it says")),

@@ -6,8 +6,8 @@ itself, what it is refused at:
 rt ci says of each edit what it refused first, in target/ci.log. Of an edit of one wrong program that is what its comment
 says. Of several, target/whole.log has all that rt refused (host/try_whole.py), and each comment says the first fact of
 its place. An edit that rt did not refuse, or refused only because a proof names what the edit took away, or only by a
-limit of its own, is a fault. The document says how many there are, so that none goes unseen, and its table of where each
-sham is tried has the manual's shams, by their claims.
+limit of its own, is a fault, and so is a comment that says that. The document says how many there are, so that none goes
+unseen, and its table of where each sham is tried has the manual's shams, by their claims.
   verify_edits.py            holds the edits to the logs
   verify_edits.py --list     prints what each edit was refused at, place by place
   verify_edits.py --write    writes that into the comments, to be read there
@@ -119,12 +119,15 @@ def refused_at(path):
 
 
 def faults(edit, said, tried):
-    """What is wrong with an edit, and where rt says another thing. What was refused is what is said, each once, and no more."""
+    """What is wrong with an edit, and where rt says another thing. What was refused is what is said, each once, and no more,
+    and by a fact."""
     if not all(said):
         yield f"{edit}: a wrong program says what is wrong, and then in a line what it is refused at"
         return
     left = list(tried.found)
     for place, fact in said:
+        if fact in NO_FACT:
+            yield f"{edit}: it says `{place}`: `{fact}`, which shows nothing of the contract"
         held = next((each for each in left if each[0] == place and is_said(each[1], fact)), None)
         if held:
             left.remove(held)

@@ -8,7 +8,7 @@ use native.Mathlib.Omega.{arith}
 use lib.IntN.{negsuc}
 use lib.ListN.{replicate}
 use Rattle.stream.specs.declared.Failure.{Failure}
-use Rattle.std.proofs.Common.{Ok, Err, None}
+use Rattle.std.proofs.Common.{Ok, Err, Some, None}
 use Rattle.refusal.specs.declared.Refusal.TheVariants.{WrongTakeUps, NoSuchNumber, NotClosed}
 use Rattle.text.specs.Decimal.{digits, decimal}
 use Rattle.bounded.specs.Bounded.{every, first_from}
@@ -45,6 +45,7 @@ use Rattle.lists.specs.Listed.{
   widest,
   Buffers,
   Turned,
+  ended_by,
   status_of,
 }
 
@@ -316,6 +317,16 @@ text-refused : text Which.Packing [] (Err NoSuchNumber)
     ≡ 114 ∷ 101 ∷ 102 ∷ 117 ∷ 115 ∷ 101 ∷ 100 ∷ 32 ∷ 55 ∷ 32 ∷ 48 ∷ 32 ∷ 48 ∷ 10 ∷ []
 unfolding digits decimal
 text-refused = refl
+
+-- what a run answers: the end that its list came to; with none, reading failed
+ended-listed : ended_by (Some (Ok tt)) ≡ Ok tt
+ended-listed = refl
+
+ended-unwritten : ended_by (Some (Err Failure.Unwritten)) ≡ Err Failure.Unwritten
+ended-unwritten = refl
+
+ended-never : ended_by None ≡ Err Failure.Unread
+ended-never = refl
 
 -- what listing answered, as a number
 status-listed : status_of (Ok tt) ≡ 0

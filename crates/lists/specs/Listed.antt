@@ -18,8 +18,10 @@
 --     outlines         the whole list of outlines of an input [I6]
 --     Buffers          the buffers are large enough: for any record, and for the beats of any schedule
 --     Turned           what a turn of a program does, in its buffers
+--     ended_by         what a run answers, by the end of its list: where none has come, it has not read to the end
 --     status_of        what listing answered, as a number
 use Rattle.std.specs.Prelude.{cond, List, [], ◌∷◌, ◌++◌, ◌≡◌, ℕ, suc, ◌+◌, ◌*◌, ◌≤◌, eqb, length, Result, Ok, Err}
+use Rattle.std.specs.Prelude.{Some, None}
 use Rattle.refusal.specs.declared.Refusal.{Refusal}
 use Rattle.refusal.specs.declared.Refusal.TheVariants.{NotClosed}
 use Rattle.refusal.specs.Answer.{Verdict}
@@ -35,7 +37,7 @@ use Rattle.reason_line.specs.Line.{explained_line, counted_line}
 use Rattle.stream.specs.declared.Failure.{Failure}
 use Rattle.stream.specs.declared.Stream.{Stream}
 use Rattle.stream.specs.Stream.{verdict_on, list_of}
-use Rattle.stream.specs.Exchange.{window, Inside}
+use Rattle.stream.specs.Exchange.{window, End, Inside}
 use Rattle.stream.specs.Pass.{Turns}
 use Rattle.lists.specs.declared.Which.{Which}
 
@@ -82,6 +84,10 @@ explanations input = list_of (line_of Which.Explaining) input
 
 abbrev pub outlines : List ℕ → List ℕ
 outlines input = list_of (line_of Which.Outlining) input
+
+abbrev pub ended_by : End → Result Unit Failure
+ended_by None = Err Failure.Unread
+ended_by (Some end) = end
 
 abbrev pub status_of : Result Unit Failure → ℕ
 status_of (Ok unit) = 0

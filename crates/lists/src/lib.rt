@@ -14,7 +14,7 @@ ghost use Rattle.stream.specs.Exchange.{Inside};
 ghost use Rattle.stream.specs.Pass.{Prints, Passes};
 ghost use Rattle.lists.specs.declared.Which as of;
 ghost use Rattle.lists.specs.Listed.{outlined_text, apart, accepted_text, refused_in, line_of, widest};
-ghost use Rattle.lists.specs.Listed.{Buffers, Turned, status_of};
+ghost use Rattle.lists.specs.Listed.{Buffers, Turned, ended_by, status_of};
 
 use lookup::Table;
 use refusal::Refusal;
@@ -191,6 +191,13 @@ fn turn<R: Read, W: Write>(
     stream::exchange(from, to, input, text, state, pass)
 }
 
+// What a run answers: the end of its list, where that has come. A run that used up its turns has not read to the end.
+fn ended(state: Stream) -> Result<(), Failure>
+    ensures { result ≡ ended_by state.end }
+{
+    state.end.unwrap_or(Err(Failure::Unread))
+}
+
 // Turn after turn, to the end of the list. A `for` over the turns would leave `fewer`, and the wrong program that its
 // contract refuses ("after a turn that goes on no turn is left", list_ends_too_early of `stream`), without a use. [E12]
 fn run<R: Read, W: Write>(
@@ -203,6 +210,7 @@ fn run<R: Read, W: Write>(
     text: &mut [u8],
 ) -> Result<(), Failure>
     requires { Buffers input.old room.old }
+    ensures { status_of result ≤ 2 }
 {
     let mut state = stream::start();
     let mut turns = u64::MAX;
@@ -210,7 +218,7 @@ fn run<R: Read, W: Write>(
         state = turn(which, table, from, to, input, room, text, state);
         turns = stream::fewer(turns, state.end.is_none());
     }
-    state.end.unwrap_or(Err(Failure::Unread))
+    ended(state)
 }
 
 // What listing answered, as a number: 0 where all was listed, 1 where reading failed and 2 where writing failed. It is

@@ -1,5 +1,5 @@
 -- Whether a piece stands in a text, on plain values.
---     stood-starts                 it does exactly if what is left of the text starts with it
+--     stood_starts                 it does exactly if what is left of the text starts with it
 --     stood-within                 where it stands, the text has it whole
 --     behind                       what follows it there
 --     stood-then, stood-never      a piece and then the piece after it; a beginning that does not stand there
@@ -17,9 +17,9 @@ use Rattle.std.proofs.lemmas.Slice.Eq.{starts_is}
 use Rattle.std.proofs.lemmas.Bool.Decides.{Decides-eqb}
 use Rattle.outline_back.specs.Reading.{Stood, there, other}
 
-pub stood-starts : (x : List ℕ) (at : ℕ) (p : List ℕ) (r : Bool)
+pub stood_starts : (x : List ℕ) (at : ℕ) (p : List ℕ) (r : Bool)
     → r ≡ starts_with eqb (take (length x - at) (drop at x)) p → Stood x at p r
-stood-starts x at p r e =
+stood_starts x at p r e =
     let all : take (length x - at) (drop at x) ≡ drop at x =
     take_all (length x - at) (drop at x) (omega (arith, length-drop at x)) in
     by r (starts_is Decides-eqb (drop at x) p r (rw all at e))

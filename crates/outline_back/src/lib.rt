@@ -28,6 +28,7 @@ struct Reached {
 }
 
 // Whether a piece stands in the text from `at` on.
+#[tactic(auto, using(crate::proofs::Standing::stood_starts))]
 fn stands(text: &[u8], at: usize, piece: &[u8]) -> bool
     requires { at ≤ length text.now }
     ensures { Stood text.now at piece.now result }

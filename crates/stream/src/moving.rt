@@ -34,6 +34,7 @@ fn send<W: Write>(to: &mut W, text: &[u8]) -> bool {
 }
 
 // Moves bytes from an index on to the front.
+#[tactic(auto, using(crate::proofs::Sliding::slid_front))]
 fn slide(input: &mut [u8], from: usize, count: usize)
     requires { from + count ≤ length input.old }
     ensures { take count input.new ≡ take count (drop from input.old) }

@@ -3,9 +3,6 @@ use native.Mathlib.Omega.{arith}
 use Rattle.reason_line.proofs.Writing.{written-four}
 use Rattle.reason_line.proofs.changed_text.Goals as goal
 
-pub returns-in-Two : goal.returns-in-Two
-returns-in-Two c = rw c.in-Two.is c.two_places.ensures
-
 pub returns-in-Four : goal.returns-in-Four
 returns-in-Four c =
     rw c.in-Four.is
