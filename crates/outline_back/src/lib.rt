@@ -18,8 +18,9 @@ struct Number {
     long: usize,
 }
 
-// How far a text has been read and its schedule written, and how many lines are still to come. It is not the type of
-// the same name in `outline`, which has no use for the lines: with them there, no function would be plainer.
+// How far a text has been read and its schedule written, and how many lines are still to come. There is one for a whole
+// text, which `list` and `heading` move on: one for each call would take more of the stack. It is not the type of the
+// same name in `outline`, which has no use for the lines: with them there, no function would be plainer.
 #[derive(Clone, Copy)]
 struct Reached {
     byte: usize,
@@ -83,55 +84,48 @@ fn line_end(text: &[u8], parent: Number, place: u64, from: usize) -> Option<usiz
     Some(feed + 1)
 }
 
-// Reads the lines of a list of headings, under the number of the heading that carries it, and writes their beats. Calls
-// `heading` for each, which calls this for the list that it carries. The loop goes by headings. [F6] [H15]
+// Reads the lines of a list of headings, under the number of the heading that carries it, writes their beats, and moves
+// `reached` on past both. Calls `heading` for each, which calls this for the list that it carries. The loop goes by
+// headings. [F6] [H15]
 #[cycle(heading_list)]
-fn list(text: &[u8], parent: Number, from: Reached, beats: &mut [u8]) -> Reached
-    requires { (parent.at + parent.long ≤ length text.now) × (from.byte ≤ length text.now)
-        × (from.beat + (from.left + from.left) ≤ length beats.old) }
-    ensures { ListRead text.now parent.at parent.long from.byte from.left from.beat beats.old beats.new result }
+fn list(text: &[u8], parent: Number, reached: &mut Reached, beats: &mut [u8])
+    requires { (parent.at + parent.long ≤ length text.now) × (reached.old.byte ≤ length text.now)
+        × (reached.old.beat + (reached.old.left + reached.old.left) ≤ length beats.old) }
+    ensures { ListRead text.now parent.at parent.long reached.old.byte reached.old.left reached.old.beat beats.old
+        beats.new reached.new }
 {
-    let mut reached = from;
     let mut place: u64 = 1;
     while reached.left != 0 {
-        let Some(end) = line_end(text, parent, place, reached.byte) else {
+        let from = reached.byte;
+        let Some(end) = line_end(text, parent, place, from) else {
             break;
         };
         let number = Number {
-            at: reached.byte,
-            long: end - 1 - reached.byte,
+            at: from,
+            long: end - 1 - from,
         };
-        let below = Reached {
-            byte: end,
-            beat: reached.beat,
-            left: reached.left - 1,
-        };
-        reached = heading(text, number, below, beats);
+        reached.byte = end;
+        reached.left -= 1;
+        heading(text, number, reached, beats);
         place += 1;
     }
-    reached
 }
 
 // Writes the beats of a heading whose own line was read, and of the list that it carries, from the line after its own
 // on: a 1, the list's, and a 0. [F6] [H15]
 #[cycle(heading_list)]
-fn heading(text: &[u8], number: Number, from: Reached, beats: &mut [u8]) -> Reached
-    requires { (number.at + number.long ≤ length text.now) × (from.byte ≤ length text.now)
-        × (from.beat + (from.left + from.left) + 2 ≤ length beats.old) }
-    ensures { HeadingRead text.now number.at number.long from.byte from.left from.beat beats.old beats.new result }
+fn heading(text: &[u8], number: Number, reached: &mut Reached, beats: &mut [u8])
+    requires { (number.at + number.long ≤ length text.now) × (reached.old.byte ≤ length text.now)
+        × (reached.old.beat + (reached.old.left + reached.old.left) + 2 ≤ length beats.old) }
+    ensures { HeadingRead text.now number.at number.long reached.old.byte reached.old.left reached.old.beat beats.old
+        beats.new reached.new }
 {
-    beats[from.beat] = 1;
-    let opened = Reached {
-        beat: from.beat + 1,
-        ..from
-    };
-    let inner = list(text, number, opened, beats);
-    let end = inner.beat;
+    beats[reached.beat] = 1;
+    reached.beat += 1;
+    list(text, number, reached, beats);
+    let end = reached.beat;
     beats[end] = 0;
-    Reached {
-        beat: end + 1,
-        ..inner
-    }
+    reached.beat = end + 1;
 }
 
 // Reads a whole text of n lines; the room takes the schedule of its outline.
@@ -139,12 +133,12 @@ fn read(n: usize, text: &[u8], room: &mut [u8]) -> Result<(), Refusal>
     requires { length room.old ≡ n + n }
     ensures { Found n text.now room.new result }
 {
-    let first = Reached {
+    let mut end = Reached {
         byte: 0,
         beat: 0,
         left: n,
     };
-    let end = list(text, Number { at: 0, long: 0 }, first, room);
+    list(text, Number { at: 0, long: 0 }, &mut end, room);
     if end.left == 0 {
         if end.byte == text.len() {
             return Ok(());

@@ -12,22 +12,22 @@ use Rattle.outline_back.proofs.+heading_list.Goals as goal
 -- the list of a heading is read, and the 0 that closes it has room
 pub heading-bounds-beats-end : goal.heading-bounds-beats-end
 heading-bounds-beats-end t c =
-    let same : length c.list-inner.new.beats ≡ length c.args.beats.now =
-    c.list-inner.auto.beats ∙ length-set c.args.beats.now c.args.from.beat 1 in
-    omega (arith, same, list-beats c.list-inner.ensures, c.requires.2)
+    let same : length c.list.new.beats ≡ length c.args.beats.now =
+    c.list.auto.beats ∙ length-set c.args.beats.now c.args.reached.now.beat 1 in
+    omega (arith, same, list-beats c.list.ensures, c.requires.2)
 
 pub heading-returns : goal.heading-returns
 heading-returns t c =
-    let same : length c.list-inner.new.beats ≡ length c.args.beats.now =
-    c.list-inner.auto.beats ∙ length-set c.args.beats.now c.args.from.beat 1 in
-    let closes : c.list-inner.result.beat < length c.list-inner.new.beats =
-    omega (arith, same, list-beats c.list-inner.ensures, c.requires.2) in
-    heading-read (omega (arith, c.requires.2)) closes c.list-inner.ensures
+    let same : length c.list.new.beats ≡ length c.args.beats.now =
+    c.list.auto.beats ∙ length-set c.args.beats.now c.args.reached.now.beat 1 in
+    let closes : c.list.new.reached.beat < length c.list.new.beats =
+    omega (arith, same, list-beats c.list.ensures, c.requires.2) in
+    heading-read (omega (arith, c.requires.2)) closes c.list.ensures
 
 pub list-loop-reached-init : goal.list-loop-reached-init
 list-loop-reached-init t c =
     let args = c.args in
-    let from = args.from in (
+    let from = args.reached.now in (
       refl,
       going-none (part args.text.now args.parent.at args.parent.long) args.text.now from.byte from.left from.beat
           args.beats.now c.requires.1,
@@ -40,27 +40,27 @@ list-overflow_sub-number t c = omega (arith, line-within c.in-Some.ensures)
 pub list-overflow_sub-number-in-loop-reached : goal.list-overflow_sub-number-in-loop-reached
 list-overflow_sub-number-in-loop-reached t c = omega (arith, line-within c.in-Some.ensures)
 
-pub list-heading-reached-requires : goal.list-heading-reached-requires
-list-heading-reached-requires t c =
+pub list-heading-requires : goal.list-heading-requires
+list-heading-requires t c =
     let left = c.loop-reached.reached.left in
     let some : 1 ≤ left = omega (arith, c.loop-reached-test.true) in
     let counted = c.loop-reached.invariant.1.counted in
     let room : c.loop-reached.reached.beat + (left + left) ≤ length c.loop-reached.beats =
     omega (arith, c.requires.2, c.loop-reached.invariant.0, counted) in
-    let fewer : left ≤ c.args.from.left = omega (arith, counted, c.loop-reached.invariant.1.written.end) in
+    let fewer : left ≤ c.args.reached.now.left = omega (arith, counted, c.loop-reached.invariant.1.written.end) in
     let ends = line-within c.in-Some.ensures in (
       omega (arith, c.decreases, fewer, some),
       (omega (arith, ends), ends.1, omega (arith, room, some)),
     )
 
 pub list-loop-reached-smaller : goal.list-loop-reached-smaller
-list-loop-reached-smaller t c = omega (arith, heading-left c.heading-reached.ensures, c.loop-reached-test.true)
+list-loop-reached-smaller t c = omega (arith, heading-left c.heading.ensures, c.loop-reached-test.true)
 
 pub list-loop-reached-preserved : goal.list-loop-reached-preserved
 list-loop-reached-preserved t c = (
-  c.heading-reached.auto.beats ∙ c.loop-reached.invariant.0,
+  c.heading.auto.beats ∙ c.loop-reached.invariant.0,
   going_more (omega (arith, c.requires.2)) c.loop-reached.invariant.1 (omega (arith, c.loop-reached-test.true))
-      c.in-Some.ensures c.heading-reached.ensures,
+      c.in-Some.ensures c.heading.ensures,
 )
 
 pub list-returns-after-loop-reached : goal.list-returns-after-loop-reached

@@ -8,14 +8,14 @@ use Rattle.outline_back.proofs.Headings.{Going}
 use Rattle.outline_back.proofs.+heading_list.Given as goal
 
 abbrev pub decreases-heading : goal.decreases-heading
-decreases-heading l = l.from.left + l.from.left + 2
+decreases-heading l = l.reached.now.left + l.reached.now.left + 2
 
 abbrev pub decreases-list : goal.decreases-list
-decreases-list l = l.from.left + l.from.left + 1
+decreases-list l = l.reached.now.left + l.reached.now.left + 1
 
 abbrev pub invariant-list-loop-reached : goal.invariant-list-loop-reached
 invariant-list-loop-reached l =
-    let from = l.fn.from in
+    let from = l.fn.reached in
     (length l.beats ≡ length l.initial.beats)
     × Going (part l.text l.parent.at l.parent.long) l.text from.byte from.left from.beat l.initial.beats
     l.reached.byte l.reached.beat l.reached.left l.place l.beats
