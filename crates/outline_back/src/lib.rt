@@ -19,8 +19,9 @@ struct Number {
 }
 
 // How far a text has been read and its schedule written, and how many lines are still to come. There is one for a whole
-// text, which `list` and `heading` move on: one for each call would take more of the stack. It is not the type of the
-// same name in `outline`, which has no use for the lines: with them there, no function would be plainer.
+// text, which `list` and `heading` move on, and one room for the digits of a place: of their own in each call they would
+// take more of the stack. It is not the type of the same name in `outline`, which has no use for the lines: with them
+// there, no function would be plainer.
 #[derive(Clone, Copy)]
 struct Reached {
     byte: usize,
@@ -64,7 +65,14 @@ fn under_it(text: &[u8], parent: Number, from: usize) -> bool
 }
 
 // Where the line of the heading at that place under a parent's number ends, if it stands in the text from `from` on.
-fn line_end(text: &[u8], parent: Number, place: u64, from: usize) -> Option<usize>
+// The place's digits are written into the lent room.
+fn line_end(
+    text: &[u8],
+    parent: Number,
+    place: u64,
+    from: usize,
+    digits: &mut [u8; 20],
+) -> Option<usize>
     requires { (parent.at + parent.long ≤ length text.now) × (from ≤ length text.now) }
     ensures { Lined text.now from (under (part text.now parent.at parent.long) place) result }
 {
@@ -72,8 +80,7 @@ fn line_end(text: &[u8], parent: Number, place: u64, from: usize) -> Option<usiz
         return None;
     }
     let number = from + stem_length(parent.long);
-    let mut digits = [0u8; 20];
-    let wide = text::decimal(place, &mut digits, 0);
+    let wide = text::decimal(place, digits, 0);
     if !stands(text, number, &digits[..wide]) {
         return None;
     }
@@ -88,7 +95,7 @@ fn line_end(text: &[u8], parent: Number, place: u64, from: usize) -> Option<usiz
 // `reached` on past both. Calls `heading` for each, which calls this for the list that it carries. The loop goes by
 // headings. [F6] [H15]
 #[cycle(heading_list)]
-fn list(text: &[u8], parent: Number, reached: &mut Reached, beats: &mut [u8])
+fn list(text: &[u8], parent: Number, reached: &mut Reached, beats: &mut [u8], digits: &mut [u8; 20])
     requires { (parent.at + parent.long ≤ length text.now) × (reached.old.byte ≤ length text.now)
         × (reached.old.beat + (reached.old.left + reached.old.left) ≤ length beats.old) }
     ensures { ListRead text.now parent.at parent.long reached.old.byte reached.old.left reached.old.beat beats.old
@@ -97,7 +104,7 @@ fn list(text: &[u8], parent: Number, reached: &mut Reached, beats: &mut [u8])
     let mut place: u64 = 1;
     while reached.left != 0 {
         let from = reached.byte;
-        let Some(end) = line_end(text, parent, place, from) else {
+        let Some(end) = line_end(text, parent, place, from, digits) else {
             break;
         };
         let number = Number {
@@ -106,7 +113,7 @@ fn list(text: &[u8], parent: Number, reached: &mut Reached, beats: &mut [u8])
         };
         reached.byte = end;
         reached.left -= 1;
-        heading(text, number, reached, beats);
+        heading(text, number, reached, beats, digits);
         place += 1;
     }
 }
@@ -114,7 +121,13 @@ fn list(text: &[u8], parent: Number, reached: &mut Reached, beats: &mut [u8])
 // Writes the beats of a heading whose own line was read, and of the list that it carries, from the line after its own
 // on: a 1, the list's, and a 0. [F6] [H15]
 #[cycle(heading_list)]
-fn heading(text: &[u8], number: Number, reached: &mut Reached, beats: &mut [u8])
+fn heading(
+    text: &[u8],
+    number: Number,
+    reached: &mut Reached,
+    beats: &mut [u8],
+    digits: &mut [u8; 20],
+)
     requires { (number.at + number.long ≤ length text.now) × (reached.old.byte ≤ length text.now)
         × (reached.old.beat + (reached.old.left + reached.old.left) + 2 ≤ length beats.old) }
     ensures { HeadingRead text.now number.at number.long reached.old.byte reached.old.left reached.old.beat beats.old
@@ -122,7 +135,7 @@ fn heading(text: &[u8], number: Number, reached: &mut Reached, beats: &mut [u8])
 {
     beats[reached.beat] = 1;
     reached.beat += 1;
-    list(text, number, reached, beats);
+    list(text, number, reached, beats, digits);
     let end = reached.beat;
     beats[end] = 0;
     reached.beat = end + 1;
@@ -138,7 +151,8 @@ fn read(n: usize, text: &[u8], room: &mut [u8]) -> Result<(), Refusal>
         beat: 0,
         left: n,
     };
-    list(text, Number { at: 0, long: 0 }, &mut end, room);
+    let mut digits = [0u8; 20];
+    list(text, Number { at: 0, long: 0 }, &mut end, room, &mut digits);
     if end.left == 0 {
         if end.byte == text.len() {
             return Ok(());
