@@ -1,11 +1,8 @@
 // Texts that differ in one byte from that of an outline: a byte is another, is left out, or is put in; and texts that
 // end early.
 use crate::asks;
+use crate::built::{Built, LONG};
 use crate::folds::Tally;
-use arrayvec::ArrayVec;
-
-// The most bytes of a text that a byte is put into or left out of, and of a row of lines.
-pub const LONG: usize = 64;
 
 // With one byte changed, which is then put back; a value that is the byte is no change.
 pub fn change(tally: &mut Tally, n: u64, text: &mut [u8], at: usize, value: u8) {
@@ -21,11 +18,11 @@ pub fn change(tally: &mut Tally, n: u64, text: &mut [u8], at: usize, value: u8) 
 }
 
 // A text that is put together of a text before and after a place, and of the bytes between.
-fn around(before: &[u8], between: &[u8], after: &[u8]) -> Option<ArrayVec<u8, LONG>> {
-    let mut text = ArrayVec::new();
-    text.try_extend_from_slice(before).ok()?;
-    text.try_extend_from_slice(between).ok()?;
-    text.try_extend_from_slice(after).ok()?;
+fn around(before: &[u8], between: &[u8], after: &[u8]) -> Option<Built> {
+    let mut text = Built::new();
+    text.add(before)?;
+    text.add(between)?;
+    text.add(after)?;
     Some(text)
 }
 
@@ -35,7 +32,7 @@ fn put_in(tally: &mut Tally, n: u64, text: &[u8], at: usize, value: u8) {
         return;
     }
     if let Some(longer) = around(&text[..at], &[value], &text[at..]) {
-        tally.read(n, longer.as_slice());
+        tally.read(n, longer.text());
     }
 }
 
@@ -45,7 +42,7 @@ fn leave_out(tally: &mut Tally, n: u64, text: &[u8], at: usize) {
         return;
     }
     if let Some(shorter) = around(&text[..at], &[], &text[at + 1..]) {
-        tally.read(n, shorter.as_slice());
+        tally.read(n, shorter.text());
     }
 }
 

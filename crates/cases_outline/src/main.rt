@@ -6,6 +6,7 @@
 #![tactic(auto)]
 
 mod asks;
+mod built;
 mod edits;
 mod folds;
 mod longest;

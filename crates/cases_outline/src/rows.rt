@@ -1,9 +1,8 @@
 // Rows of lines of an outline: every row of up to n + 1 of its n lines, so that lines are left out, doubled, exchanged
 // and put anywhere.
 use crate::asks;
-use crate::edits::LONG;
+use crate::built::{Built, LONG};
 use crate::folds::Tally;
-use arrayvec::ArrayVec;
 
 // A line of the text, the first being line 0, with its line feed.
 fn line(text: &[u8], number: usize) -> Option<&[u8]> {
@@ -11,13 +10,12 @@ fn line(text: &[u8], number: usize) -> Option<&[u8]> {
 }
 
 // So many lines, by the digits of a number to the base n, the lowest first.
-fn compose(text: &[u8], n: u64, count: u64, word: u64) -> Option<ArrayVec<u8, LONG>> {
-    let mut row = ArrayVec::new();
+fn compose(text: &[u8], n: u64, count: u64, word: u64) -> Option<Built> {
+    let mut row = Built::new();
     let mut rest = word;
     for _ in 0..count {
         let number = rest.checked_rem(n)?;
-        row.try_extend_from_slice(line(text, number as usize)?)
-            .ok()?;
+        row.add(line(text, number as usize)?)?;
         rest = rest.checked_div(n)?;
     }
     Some(row)
@@ -27,7 +25,7 @@ fn compose(text: &[u8], n: u64, count: u64, word: u64) -> Option<ArrayVec<u8, LO
 fn of_count(tally: &mut Tally, n: u64, text: &[u8], count: u64, words: u64) {
     for word in 0..words {
         if let Some(row) = compose(text, n, count, word) {
-            tally.read(n, row.as_slice());
+            tally.read(n, row.text());
         }
     }
 }

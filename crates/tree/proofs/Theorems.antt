@@ -4,15 +4,19 @@
 --     has-closed, closed-has    what has tables is a closed schedule, and every closed schedule has tables
 --     one-tables                a schedule has one triple of tables
 --     treed-one                 no second answer and no second content of what is lent fits the contract [P11]
+--     popped-one                the same of the top that a stack gives and of what it leaves [P11]
 --     tree-accepts, accepts-tree     the way there accepts exactly the closed schedules of n ≤ largest with
 --                                    room for their tables [T4]
 -- Assumes nothing.
-use mathlib.Core.List.{List, [], ◌∷◌, ◌++◌}
+use mathlib.Core.Bool.{true≢false}
+use mathlib.Core.List.{List, [], ◌∷◌, ◌++◌, reverse, reverse-append, append-nil}
 use mathlib.Core.Path.{◌≡◌, refl, sym, ◌∙◌, ap, subst}
-use Prim.Native.Nat.{ℕ, ◌+◌, ◌≤◌}
+use Prim.Native.Nat.{ℕ, ◌+◌, ◌≤◌, ◌<◌}
 use native.Mathlib.Omega.{arith}
 use lib.ListN.{length}
-use Rattle.std.proofs.Common.{Ok}
+use Rattle.std.proofs.Common.{Ok, Option, None, Some, ◌↔◌}
+use Rattle.std.proofs.lemmas.List.{reverse-reverse}
+use Rattle.std.specs.Option.{option_to_list, IsSome}
 use Rattle.refusal.specs.Answer.{Verdict}
 use Rattle.refusal.specs.Rows.{judge}
 use Rattle.refusal.proofs.Rows.{judge-front, both}
@@ -84,6 +88,24 @@ treed-one (filled e q) (filled f u) = let s = one-tables q u in (refl, s.0, s.1,
 treed-one (filled e q) (kept f) = both e f
 treed-one (kept e) (filled f u) = both f e
 treed-one (kept e) (kept f) = (sym e ∙ f, refl, refl, refl)
+
+-- two lists with one item more
+one-more : (u v : List ℕ) (x y : ℕ) → u ++ x ∷ [] ≡ v ++ y ∷ [] → (u ≡ v) × (x ≡ y)
+one-more u v x y e =
+    let turned : x ∷ reverse u ≡ y ∷ reverse v =
+    sym (reverse-append u (x ∷ [])) ∙ ap reverse e ∙ reverse-append v (y ∷ []) in
+    let below : reverse u ≡ reverse v = cc in
+    (sym (reverse-reverse u) ∙ ap reverse below ∙ reverse-reverse v, cc)
+
+-- by the two clauses of a pop: what was there is what is left and the answer, and there is one if anything was there
+pub popped-one : {st : List ℕ} (u v : List ℕ) (o i : Option ℕ) → st ≡ u ++ option_to_list o
+    → (IsSome o ↔ (0 < length st)) → st ≡ v ++ option_to_list i → (IsSome i ↔ (0 < length st)) → (u ≡ v) × (o ≡ i)
+popped-one u v None None e h f k = (sym (append-nil u) ∙ sym e ∙ f ∙ append-nil v, refl)
+popped-one u v None (Some y) e h f k = absurd (true≢false (sym (h.1 (k.0 refl))))
+popped-one u v (Some x) None e h f k = absurd (true≢false (sym (k.1 (h.0 refl))))
+popped-one u v (Some x) (Some y) e h f k =
+    let same = one-more u v x y (sym e ∙ f) in
+    (same.0, ap Some same.1)
 
 module _ (n : ℕ) (b l r p : List ℕ) where
   abbrev pub Sized : Type 0

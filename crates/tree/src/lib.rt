@@ -9,8 +9,10 @@ ghost use Rattle.schedule.specs.Schedule.{Schedule};
 ghost use Rattle.tree.specs.Table.{Has, fits, size_rows, Treed};
 ghost use Rattle.tree.specs.Planting.{adopted};
 
-use arrayvec::ArrayVec;
 use refusal::Refusal;
+use stack::Stack;
+
+pub mod stack;
 
 // Makes the node the parent of a child; 0 is a leaf, and has none.
 fn adopt(parent: &mut [u8], child: u8, node: u8)
@@ -49,8 +51,8 @@ fn fill(beats: &[u8], left: &mut [u8], right: &mut [u8], parent: &mut [u8])
     ensures { Has (length left.old) beats.now left.new right.new
         parent.new }
 {
-    // a place for each node, and for one leaf more
-    let mut stack: ArrayVec<u8, { triangle::SIDE }> = ArrayVec::new();
+    let mut places = [0u8; triangle::SIDE];
+    let mut stack = Stack::over(&mut places);
     stack.push(0);
     let mut row = left.len();
     for beat in beats.iter().rev() {

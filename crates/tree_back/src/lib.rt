@@ -9,8 +9,8 @@ ghost use Rattle.tree.specs.Table.{lent_rows};
 ghost use Rattle.tree_back.specs.Back.{Untreed};
 ghost use Rattle.tree_back.specs.Tracing.{root_number, is_next, Traced};
 
-use arrayvec::ArrayVec;
 use refusal::Refusal;
+use tree::stack::Stack;
 
 // The root of a tree of n nodes, 0 where there is none.
 fn root(n: usize) -> u8
@@ -36,8 +36,8 @@ fn trace(left: &[u8], right: &[u8], parent: &[u8], beats: &mut [u8]) -> bool
     ensures { Traced (length left.now) left.now right.now
         parent.now beats.new result }
 {
-    // a place for each node, and one more
-    let mut stack: ArrayVec<u8, { triangle::SIDE }> = ArrayVec::new();
+    let mut places = [0u8; triangle::SIDE];
+    let mut stack = Stack::over(&mut places);
     let mut row: usize = 0;
     let mut own: u8 = 0;
     let mut child = root(left.len());

@@ -6,4 +6,4 @@ use Rattle.tree.proofs.fill.Given as goal
 
 abbrev pub invariant-loop-beat : goal.invariant-loop-beat
 invariant-loop-beat l =
-    Planted l.beats (length l.initial.left) l.beat-iterator.iter.rest.now l.row l.stack.items l.left l.right l.parent
+    Planted l.beats (length l.initial.left) l.beat-iterator.iter.rest.now l.row l.stack l.left l.right l.parent

@@ -17,15 +17,15 @@ use Rattle.tree_back.proofs.trace.Goals as goal
 
 pub loop-beat-init : goal.loop-beat-init
 loop-beat-init c =
-    rw (c.new-stack.ensures, c.root-child.ensures)
+    rw (c.over-stack.ensures, c.root-child.ensures)
     (trace-start (length c.args.left.now) c.args.left.now c.args.right.now c.args.parent.now c.args.beats.now
     c.requires.3)
 
 pub returns-in_default : goal.returns-in_default
 returns-in_default c =
     let here = c.loop-beat in
-    let some : 0 < length here.stack.items → ⊥ = λ h. true≢false (sym (c.in_default.ensures.variant.1 h)) in
-    let waits = ap reverse (nil_from_length here.stack.items (omega (arith, some))) in
+    let some : 0 < length here.stack → ⊥ = λ h. true≢false (sym (c.in_default.ensures.variant.1 h)) in
+    let waits = ap reverse (nil_from_length here.stack (omega (arith, some))) in
     broken
     (trace-stuck here.invariant c.if-child-eq0.true waits (omega (arith, here.invariant.long, c.loop-beat-test.true)))
 
@@ -44,8 +44,8 @@ loop-beat-preserved c =
     elim c.if-child-eq0.branch [
       | then-child-eq0+in-Some w ↦
           rw (w.stack-is, w.row-is, w.own-is, w.child-is, w.beats-is)
-          (trace-leaf here.invariant unfinished w.if-child-eq0.true w.in-Some.node (reverse w.pop.new.self.items)
-          (ap reverse w.in-Some.ensures.items ∙ top w.pop.new.self.items w.in-Some.node))
+          (trace-leaf here.invariant unfinished w.if-child-eq0.true w.in-Some.node (reverse w.pop.new.self)
+          (ap reverse w.in-Some.ensures.items ∙ top w.pop.new.self w.in-Some.node))
       | else-child-eq0+else-not-next w ↦
           let inner = next-so (length c.args.left.now) c.args.parent.now here.row here.child here.own c.requires.2
           (sym w.next.ensures ∙ w.if-not-next.false) in
@@ -55,8 +55,8 @@ loop-beat-preserved c =
             w.own-is,
             w.child-is,
             w.beats-is,
-            w.push.ensures.items,
-            top here.stack.items here.child,
+            w.push.ensures,
+            top here.stack here.child,
           )
           (trace-node here.invariant unfinished inner)
     ]

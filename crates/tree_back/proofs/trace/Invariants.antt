@@ -8,4 +8,4 @@ use Rattle.tree_back.proofs.trace.Given as goal
 
 abbrev pub invariant-loop-beat : goal.invariant-loop-beat
 invariant-loop-beat l =
-    Traced-to (length l.left) l.left l.right l.parent l.beat-index l.row l.own l.child (reverse l.stack.items) l.beats
+    Traced-to (length l.left) l.left l.right l.parent l.beat-index l.row l.own l.child (reverse l.stack) l.beats
