@@ -19,9 +19,9 @@ struct Number {
 }
 
 // How far a text has been read and its schedule written, and how many lines are still to come. There is one for a whole
-// text, which `list` and `heading` move on, and one room for the digits of a place: of their own in each call they would
-// take more of the stack. It is not the type of the same name in `outline`, which has no use for the lines: with them
-// there, no function would be plainer.
+// text, which `list` and `heading` move on, and one room for the digits of a place: one for each call would take more
+// of the stack. It is not the type of the same name in `outline`, which has no use for the lines: with them there, no
+// function would be plainer.
 #[derive(Clone, Copy)]
 struct Reached {
     byte: usize,
