@@ -1,35 +1,53 @@
 -- Whether a piece stands in a text, on plain values.
---     stood_starts                 it does exactly if what is left of the text starts with it
+--     Begun                        as many bytes of a piece stand there
+--     stood-short, stood-other     a piece that does not stand there: too little is left; or another byte is met
+--     begun-none, begun_more       none of its bytes stands there yet; one more
+--     stood-whole                  all of its bytes do
 --     stood-within                 where it stands, the text has it whole
 --     behind                       what follows it there
 --     stood-then, stood-never      a piece and then the piece after it; a beginning that does not stand there
 -- Assumes nothing.
-use mathlib.Core.Bool.{Bool, true, false, false≢true}
-use mathlib.Core.List.{List, ◌++◌, append_assoc}
-use mathlib.Core.Path.{◌≡◌, refl, sym, ◌∙◌, ap}
-use Prim.Native.Nat.{ℕ, ◌+◌, ◌-◌, ◌≤◌}
+use mathlib.Core.Bool.{Bool, true, false}
+use mathlib.Core.List.{List, [], ◌∷◌, ◌++◌, append_assoc}
+use mathlib.Core.Path.{◌≡◌, refl, sym, ◌∙◌, ap, ap₂}
+use Prim.Native.Nat.{ℕ, suc, ◌+◌, ◌-◌, ◌≤◌, ◌<◌}
+use native.Mathlib.Numerals.{add-one}
 use native.Mathlib.Omega.{arith}
-use lib.Dec.{eqb}
-use lib.ListN.{length, take, drop, length-append, length-drop}
-use lib.Seq.{take_all, drop-append_seam, drop-drop}
-use Rattle.std.specs.List.{starts_with}
-use Rattle.std.proofs.lemmas.Slice.Eq.{starts_is}
-use Rattle.std.proofs.lemmas.Bool.Decides.{Decides-eqb}
+use lib.ListN.{length, take, drop, get_or, length-append, length-drop, take-append-drop, get_or-append}
+use lib.Seq.{drop-append_seam, drop-drop, take-suc, take-length, get_or-drop}
 use Rattle.outline_back.specs.Reading.{Stood, there, other}
 
-pub stood_starts : (x : List ℕ) (at : ℕ) (p : List ℕ) (r : Bool)
-    → r ≡ starts_with eqb (take (length x - at) (drop at x)) p → Stood x at p r
-stood_starts x at p r e =
-    let all : take (length x - at) (drop at x) ≡ drop at x =
-    take_all (length x - at) (drop at x) (omega (arith, length-drop at x)) in
-    by r (starts_is Decides-eqb (drop at x) p r (rw all at e))
-  where
-    by : (r : Bool)
-        → (r ≡ true → drop at x ≡ p ++ drop (length p) (drop at x))
-        × ((rest : List ℕ) → drop at x ≡ p ++ rest → r ≡ true)
-        → Stood x at p r
-    by true q = there (drop (length p) (drop at x)) (q.0 refl)
-    by false q = other (λ rest f. false≢true (q.1 rest f))
+pub record Begun (x : List ℕ) (at : ℕ) (p : List ℕ) (i : ℕ) : Type 0 where
+  pub within : i ≤ length p
+  pub same : take i (drop at x) ≡ take i p
+
+module _ {x : List ℕ} {at : ℕ} {p : List ℕ} where
+  pub stood-short : length x - at < length p → Stood x at p false
+  stood-short h = other (λ rest e. omega (arith, length-append p rest, length-drop at x, ap length e))
+
+  pub stood-other : (i : ℕ) → i < length p → (get_or x (at + i) 0 ≡ get_or p i 0 → ⊥) → Stood x at p false
+  stood-other i h f = other (λ rest e.
+      f (sym (get_or-drop at x i 0) ∙ ap (λ (l : List ℕ). get_or l i 0) e ∙ get_or-append p rest 0 i h))
+
+  pub begun-none : Begun x at p 0
+  begun-none = record { within = omega arith; same = refl }
+
+  pub begun_more : {i : ℕ} → Begun x at p i → at + i < length x → i < length p → get_or x (at + i) 0 ≡ get_or p i 0
+      → Begun x at p (i + 1)
+  begun_more {i} b h g e =
+      let long : i < length (drop at x) = omega (arith, length-drop at x) in
+      let one : get_or (drop at x) i 0 ≡ get_or p i 0 = get_or-drop at x i 0 ∙ e in
+      let more : take (suc i) (drop at x) ≡ take (suc i) p =
+      take-suc (drop at x) i 0 long ∙ ap₂ (λ (l : List ℕ) (a : ℕ). l ++ a ∷ []) b.same one
+      ∙ sym (take-suc p i 0 g) in
+      record { within = omega arith; same = rw add-one more }
+
+  pub stood-whole : {i : ℕ} → Begun x at p i → length p ≤ i → Stood x at p true
+  stood-whole {i} b h =
+      let e : i ≡ length p = omega (arith, b.within) in
+      let whole : take i (drop at x) ≡ p = b.same ∙ ap (λ (k : ℕ). take k p) e ∙ take-length p in
+      there (drop i (drop at x))
+      (sym (take-append-drop i (drop at x)) ∙ ap (λ (l : List ℕ). l ++ drop i (drop at x)) whole)
 
 pub stood-within : {x : List ℕ} {at : ℕ} {p : List ℕ} → Stood x at p true → at ≤ length x → at + length p ≤ length x
 stood-within {x} {at} {p} (there rest e) h = omega (arith, length-append p rest, length-drop at x, ap length e)

@@ -29,13 +29,21 @@ struct Reached {
     left: usize,
 }
 
-// Whether a piece stands in the text from `at` on.
-#[tactic(auto, using(crate::proofs::Standing::stood_starts))]
+// Whether a piece stands in the text from `at` on. The library's `starts_with` was tried and proves; where a text has few
+// lines, reading it then takes half as long again, since the pieces are short and the call is not inlined.
 fn stands(text: &[u8], at: usize, piece: &[u8]) -> bool
     requires { at ≤ length text.now }
     ensures { Stood text.now at piece.now result }
 {
-    text[at..].starts_with(piece)
+    if text.len() - at < piece.len() {
+        return false;
+    }
+    for i in 0..piece.len() {
+        if text[at + i] != piece[i] {
+            return false;
+        }
+    }
+    true
 }
 
 // How long the beginning of a number is under a parent's number of that length: a dot comes after it. The topmost have
