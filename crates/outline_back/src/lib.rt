@@ -29,8 +29,8 @@ struct Reached {
     left: usize,
 }
 
-// Whether a piece stands in the text from `at` on. The library's `starts_with` was tried and proves; where a text has few
-// lines, reading it then takes half as long again, since the pieces are short and the call is not inlined.
+// Whether a piece stands in the text from `at` on. The library's `starts_with` was tried and proves; where a text has
+// few lines, reading it then takes half as long again, since the pieces are short and the call is not inlined.
 fn stands(text: &[u8], at: usize, piece: &[u8]) -> bool
     requires { at ≤ length text.now }
     ensures { Stood text.now at piece.now result }
